@@ -139,7 +139,10 @@ fn heed<N: Name, J: HandshakeOp, R: Wait>(
     thread: &mut Mutator<'_, N, J>,
     said: Poll,
 ) -> bool {
-    matches!(said, Poll::Go) || thread.stop(rt).is_ok()
+    match said {
+        Poll::Go => true,
+        Poll::Stop(_) => thread.stop(rt).is_ok(),
+    }
 }
 
 // Makes back edges.

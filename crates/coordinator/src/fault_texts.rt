@@ -1,4 +1,4 @@
-//! The texts of the faults of driving.
+//! What the faults of driving say of themselves.
 use crate::faults::DriveFault;
 use std::error::Error;
 use std::fmt;

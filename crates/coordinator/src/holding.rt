@@ -1,4 +1,4 @@
-//! Holds a thread, by taking its body out of its berth, and releases it.
+//! Holding a thread: the coordinator takes its body out of its berth, and brings it back.
 ghost use Rattle.std.specs.Prelude.{◌≡◌, ◌≢◌, ◌<◌, ◌++◌, ◌∷◌, [], false, IfSome, IfNone, IfOk, IfErr};
 ghost use Rattle.berths.specs.Berths.{Went, acted};
 ghost use Rattle.stopped_threads.specs.Held.{is_held};
@@ -13,8 +13,7 @@ use operations::job::HandshakeOp;
 use std::sync::Wait;
 use stopped_threads::{HoldFault, ReleaseFault, hold_fault_at};
 
-/// Why a thread isn't held: a fault that was found first, or the receipt that its body isn't in its berth, so that it
-/// isn't safe.
+/// Why a thread isn't held: by a fault that was found before, or since it isn't safe, by the receipt that its body isn't in its berth.
 #[derive(Drop)]
 pub enum Unheld<N: Name> {
     Fault(HoldFault),
@@ -22,8 +21,8 @@ pub enum Unheld<N: Name> {
 }
 
 impl<'a, N: Name, J: HandshakeOp> Coordinator<'a, N, J> {
-    /// Holds the thread of a place that was armed for an open request and isn't done with it: takes its body out of its
-    /// berth. Returns the receipt of that. Refusals in the order of `HoldFault`.
+    /// Holds the thread of a place, which was told an open request and isn't done with it: takes its body out of its berth. Answers
+    /// the receipt of that.
     pub fn hold<R: Wait>(&mut self, rt: &R, place: usize) -> Result<BodyReceipt<N>, HoldFault>
         ensures held { IfOk result (Holds self.old self.new place) }
         ensures refused { IfErr result (λ e. hold_refused self.old N.board.places place e
@@ -36,8 +35,8 @@ impl<'a, N: Name, J: HandshakeOp> Coordinator<'a, N, J> {
         }
     }
 
-    // Holds the thread, or returns its berth's receipt if it isn't safe. The berth's lock is taken after the desk's. If
-    // the thread got done between the two, its berth has no job or mark, and the desk is asked again.
+    // Holds the thread, or answers its berth's receipt where it isn't safe. The berth's lock comes after the desk's: where the thread got
+    // done between the two, its berth tells that nothing is told to it, and the desk is asked again.
     fn take_safe<R: Wait>(&mut self, rt: &R, place: usize) -> Result<BodyReceipt<N>, Unheld<N>>
         ensures held { IfOk result (Holds self.old self.new place) }
         ensures refused { IfErr result (λ e. IsUnheld self.old N.board.places place e
@@ -51,7 +50,7 @@ impl<'a, N: Name, J: HandshakeOp> Coordinator<'a, N, J> {
         unreachable!()
     }
 
-    // One try. None if the body is in its berth, without a job or mark.
+    // One try. None where the body is in its berth and nothing is told to its thread.
     fn try_take<R: Wait>(
         &mut self,
         rt: &R,
@@ -75,7 +74,7 @@ impl<'a, N: Name, J: HandshakeOp> Coordinator<'a, N, J> {
         }
     }
 
-    // Holds the named thread if its body is in its berth, with a job or mark. The error is the berth's receipt.
+    // Holds the thread of the name where its body is in its berth and something is told to it; the error is the berth's receipt.
     #[inline(always)]
     pub(crate) fn hold_here<R: Wait>(
         &mut self,
@@ -92,7 +91,7 @@ impl<'a, N: Name, J: HandshakeOp> Coordinator<'a, N, J> {
         self.bodies.hold(rt, self.shared, name, place)
     }
 
-    // The name of the thread at the place, if the desk lets it be held and it isn't held; or the refusal.
+    // The name of the thread of a place that may be held as far as the desk goes and isn't held, or why there is none.
     fn holdable<R: Wait>(&self, rt: &R, place: usize) -> Result<u64, HoldFault>
         ensures may { IfOk result (λ name. (place < N.board.places) × MayHold self.now place name) }
         ensures refused { IfErr result (λ e. hold_refused self.now N.board.places place e
@@ -117,7 +116,7 @@ impl<'a, N: Name, J: HandshakeOp> Coordinator<'a, N, J> {
         Ok(name)
     }
 
-    // Why a place has no held thread.
+    // Why a place has no held thread: there is no such place, no live thread has it, or its thread isn't held.
     pub(crate) fn unheld<R: Wait>(&self, rt: &R, place: usize) -> ReleaseFault
         ensures { HasNoHeld N.board.places place result }
     {
@@ -133,8 +132,7 @@ impl<'a, N: Name, J: HandshakeOp> Coordinator<'a, N, J> {
         }
     }
 
-    /// Puts the body of a held thread back into its berth, and returns the receipt. Refusals in the order of
-    /// `ReleaseFault`.
+    /// Brings the body of a held thread back into its berth. Answers the receipt that it is there.
     pub fn release<R: Wait>(&mut self, rt: &R, place: usize) -> Result<BodyReceipt<N>, ReleaseFault>
         ensures released { IfOk result (Releases self.old self.new place) }
         ensures refused { IfErr result (λ e. (is_held place self.old.held ≡ false)

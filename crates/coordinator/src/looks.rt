@@ -1,9 +1,9 @@
-//! How many looks the coordinator makes for something before it waits in another way.
+//! How often the coordinator looks for something before it does otherwise.
 ghost use Rattle.std.specs.Prelude.{◌≡◌, ◌-◌, min};
 
 use std::marker::Model;
 
-/// The number of looks left. Contracts see it.
+/// So many looks may still be made. Contracts see the number.
 #[derive(Drop)]
 pub struct Looks {
     left: u32,
@@ -24,7 +24,7 @@ impl Looks {
         Looks { left }
     }
 
-    /// Returns how many looks may be made in one place, at most `patience`.
+    /// How many may be made in one place, where patience ends after so many.
     #[inline(always)]
     pub fn up_to(&self, patience: u32) -> u32
         ensures { result ≡ min self.now patience }
@@ -36,7 +36,7 @@ impl Looks {
         }
     }
 
-    /// Takes off the looks that were made.
+    /// So many were made.
     #[inline(always)]
     pub fn spend(&mut self, made: u32)
         ensures { self.new ≡ self.old - made }
@@ -44,7 +44,7 @@ impl Looks {
         self.left = self.left.saturating_sub(made);
     }
 
-    /// Leaves no look.
+    /// No more may be made.
     #[inline(always)]
     pub fn end(&mut self)
         ensures { self.new ≡ 0 }

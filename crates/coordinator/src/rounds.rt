@@ -1,5 +1,5 @@
-//! The steps of reclaiming before the weighing, as values. Only its own step makes a value, and the next step takes it.
-//! So the code is weighed after the Close of the handshake, which is worked on after the round.
+//! The steps of a reclaiming before its weighing, as values: only its step makes each, and the next takes it. So the code is weighed behind
+//! the Close of the handshake, and the handshake is worked on behind the round.
 ghost use Rattle.std.specs.Prelude.{◌≡◌, ◌≢◌, true, false, None, Some, IfOk, IfErr, IfSome};
 ghost use Rattle.desk.specs.declared.entries.Entry.{Entry};
 ghost use Rattle.desk.specs.Fields.{at};
@@ -16,8 +16,7 @@ use std::marker::Model;
 use std::snapshot::Snapshot;
 use stopped_threads::{Reclaimed, weigh};
 
-/// The first step of reclaiming: a round, and the Ask of the handshake if there is one. It isn't `Drop`, so that the
-/// handshake is worked on.
+/// The first step of a reclaiming: a round, and the Ask of its handshake where it has one. It isn't `Drop`: the handshake is worked on.
 pub struct RoundDone<N: Name, J: HandshakeOp> {
     before: Snapshot<Desk<N, J>>,
     after: Snapshot<Desk<N, J>>,
@@ -38,7 +37,7 @@ impl<N: Name, J: HandshakeOp> Model for RoundDone<N, J> {
         b.after.value.keeper ≡ went_round b.before.value.keeper b.before.value.keeper.moment };
 }
 
-/// Reclaiming after its handshake is closed, if there is one, with the receipt of the Close.
+/// A reclaim whose handshake is closed, where there is one, with the receipt of its Close.
 pub struct HandshakeClosed<N: Name, J: HandshakeOp> {
     begun: RoundDone<N, J>,
     closed: Option<Receipt<N>>,
@@ -55,7 +54,7 @@ impl<N: Name, J: HandshakeOp> Model for HandshakeClosed<N, J> {
 }
 
 impl<N: Name, J: HandshakeOp> RoundDone<N, J> {
-    /// Makes the round, and queues the request if there is one. Refusals in the order of `ReclaimFault`.
+    /// Makes the step.
     pub fn begin(
         desk: &mut Desk<N, J>,
         board: &Board,
@@ -94,7 +93,7 @@ impl<N: Name, J: HandshakeOp> RoundDone<N, J> {
         }
     }
 
-    // Whether the handshake, if there is one, is closed at the desk: no request up to its number is open or waits.
+    // Whether the handshake is closed at the desk, where there is one: nothing that was asked up to it is open or waits.
     fn is_over(&self, desk: &Desk<N, J>) -> bool
         ensures { result ≡ true → IsOver self.now.asked desk.now }
     {
@@ -104,7 +103,7 @@ impl<N: Name, J: HandshakeOp> RoundDone<N, J> {
         }
     }
 
-    /// Returns whether there is no handshake.
+    /// Whether there is no handshake.
     pub fn is_alone(&self) -> bool
         ensures yes { result ≡ true → self.now.asked ≡ None }
         ensures no { result ≡ false → self.now.asked ≢ None }
@@ -115,7 +114,7 @@ impl<N: Name, J: HandshakeOp> RoundDone<N, J> {
         }
     }
 
-    /// Continues without a handshake.
+    /// Goes on where there is no handshake.
     pub fn alone(self) -> HandshakeClosed<N, J>
         requires { self.asked ≡ None }
         ensures begun { result.begun ≡ self }
@@ -127,7 +126,7 @@ impl<N: Name, J: HandshakeOp> RoundDone<N, J> {
         }
     }
 
-    /// Continues after the Close of its handshake. After another Close, returns itself.
+    /// Goes on behind the Close of its handshake; that of another leaves it as it is.
     pub fn shaken(
         self,
         number: u64,
@@ -148,7 +147,7 @@ impl<N: Name, J: HandshakeOp> RoundDone<N, J> {
 }
 
 impl<N: Name, J: HandshakeOp> HandshakeClosed<N, J> {
-    /// Looks at each place, weighs the code, and frees it if it has no activation. None if the code can't be weighed,
+    /// Looks at each place and weighs the code, and where no activation stands frees it. None where it isn't a code that can be weighed,
     /// or the handshake isn't closed at the desk.
     pub fn weigh(
         &self,
@@ -167,7 +166,7 @@ impl<N: Name, J: HandshakeOp> HandshakeClosed<N, J> {
         weigh(desk, board, serial, places)
     }
 
-    /// Ends reclaiming with the result of the weighing.
+    /// What the weighing found, at the end.
     pub fn end(self, said: Reclaimed<N>) -> Reclaimed<N>
         ensures { result ≡ said }
     {

@@ -1,4 +1,4 @@
--- The body at the index is the held one of the place's thread, served or not.
+-- A body that was served, or wasn't, stands where the held thread of the place does.
 use Rattle.std.proofs.Common.{◌≡◌, ◌∙◌, ℕ, Some, None, sym, subst}
 use Rattle.std.specs.Prelude.{Result, Ok, Err, IfOk, IfErr, OnErr, slice_get, slice_set}
 use Rattle.frames.specs.ImageView.{ImageView}

@@ -1,4 +1,4 @@
-//! Holding, serving and releasing threads.
+//! Holding a thread, serving it, and letting it go.
 ghost use Rattle.std.specs.Prelude.{◌≡◌, ◌≢◌, ◌<◌, ◌++◌, ◌∷◌, [], false, None, Some, length, slice_index, IfSome, IfNone, IfOk, IfErr, ℕ};
 ghost use Rattle.bodies.specs.Bodies.{BodyView};
 ghost use Rattle.berths.specs.declared.room.Holder.TheVariants.{Out as IsOut};
@@ -20,7 +20,7 @@ use operations::job::HandshakeOp;
 use poll::PollRow;
 use stopped_threads::{HoldFault, ReleaseFault, ServeFault, Unserved, serve_fault_of, unserved};
 
-// Why a thread isn't held, by its standing and a progress that isn't `Undone`.
+// Why a thread that stands to the open requests like this, and owes nothing of what it was told, isn't held.
 fn refusal(said: Standing, progress: Progress) -> HoldFault
     requires { (n : ℕ) → progress ≢ IsUndone n }
     ensures { hold_fault said progress ≡ Some result }
@@ -38,9 +38,8 @@ fn refusal(said: Standing, progress: Progress) -> HoldFault
 }
 
 impl<N: Name> CoordinatorCore<N> {
-    /// Holds the thread of a place that was armed for an open request and isn't done with it: takes its body out of its
-    /// room. Returns the number of the oldest operation that the thread owes, and the receipt that the body came out.
-    /// Refusals in the order of `HoldFault`.
+    /// Holds the thread of a place, which was told an open request and isn't done with it: takes its body out of its room. Answers the
+    /// number of the oldest operation that it owes, with the receipt that it came out.
     pub fn hold<J: HandshakeOp>(
         &mut self,
         desk: &Desk<N, J>,
@@ -69,8 +68,8 @@ impl<N: Name> CoordinatorCore<N> {
         }
     }
 
-    // The name of the thread at the place, if the desk lets it be held and it isn't held, and the number of the oldest
-    // operation that it owes; or the refusal.
+    // The name of the thread of a place that may be held as far as the desk goes and isn't held, with the number of the oldest operation
+    // that it owes; or why there is none.
     #[tactic(auto, using(crate::proofs::Owing::owes))]
     fn holdable<J: HandshakeOp>(
         &self,
@@ -93,7 +92,7 @@ impl<N: Name> CoordinatorCore<N> {
         let Some(name) = desk.name_at(place) else {
             return Err(HoldFault::Vacant);
         };
-        // A thread that owes a request is its target, so only other threads need their standing.
+        // Who owes a request is a target of it: how the name stands is looked up for others alone.
         let progress = desk.progress(name, last);
         match progress {
             Progress::Undone(_) if self.bodies.has(place) => Err(HoldFault::Held),
@@ -102,7 +101,7 @@ impl<N: Name> CoordinatorCore<N> {
         }
     }
 
-    /// Returns why a place has no held thread.
+    /// Why a place has no held thread: there is no such place, no live thread has it, or its thread isn't held.
     pub fn unheld<J: HandshakeOp>(&self, desk: &Desk<N, J>, place: usize) -> ReleaseFault
         ensures { HasNoHeldBy (In (at desk.now)) N.board.places place result }
     {
@@ -115,8 +114,8 @@ impl<N: Name> CoordinatorCore<N> {
         }
     }
 
-    /// Puts the held body of a place back into its room, and returns the receipt. None if the body didn't come out of
-    /// the lent room: nothing is done. Refusals in the order of `ReleaseFault`.
+    /// The held body of a place goes back into its room: the receipt of that. None where it didn't come out of the room that is lent, and
+    /// nothing is done.
     pub fn release<J: HandshakeOp>(
         &mut self,
         desk: &Desk<N, J>,
@@ -138,8 +137,7 @@ impl<N: Name> CoordinatorCore<N> {
         }
     }
 
-    /// Releases a thread as `release` does, without the desk. None if no thread of the place is held: `unheld` returns
-    /// why.
+    /// Lets go of a held thread as `release` does, without the desk. None where no thread of the place is held: `unheld` tells why.
     #[inline(always)]
     pub fn release_held<J: HandshakeOp>(
         &mut self,
@@ -157,13 +155,9 @@ impl<N: Name> CoordinatorCore<N> {
         Some(self.bodies.release_into(index, room, self.operated))
     }
 
-    /// Serves the held thread of a place that was armed for an open handshake and isn't done with it: publishes its
-    /// stack, runs its oldest job, enters the job's reply, and clears the operation. Returns the operation's number and
-    /// the receipt of the Finish.
-    ///
-    /// # Errors
-    /// The outer error is a refusal, in the order of `ServeFault`. The inner one is `NoJob`, or `NotEntered` if the
-    /// desk refuses the reply.
+    /// Serves the held thread of a place, which was told an open handshake and isn't done with it: publishes its stack, runs its oldest job
+    /// on it, enters what the job answered, and clears the operation. Answers the number of the operation, with what is known of the
+    /// entry.
     pub fn serve<J: HandshakeOp>(
         &mut self,
         desk: &mut Desk<N, J>,
@@ -206,7 +200,7 @@ impl<N: Name> CoordinatorCore<N> {
         Ok(self.bodies.serve_lent(index, room, desk, board, row))
     }
 
-    // Why the held thread at this index and place isn't served.
+    // Why the held thread at the index, of this place, isn't served.
     fn serve_refusal<J: HandshakeOp>(
         &self,
         desk: &Desk<N, J>,

@@ -1,4 +1,4 @@
--- An entered Operate as contracts see it.
+-- What contracts see of an Operate that was entered.
 use Rattle.std.specs.Prelude.{ℕ, List}
 use Rattle.desk.specs.Machine.{Stands}
 

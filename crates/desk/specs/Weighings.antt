@@ -1,4 +1,4 @@
--- A weighing as contracts see it.
+-- What contracts see of a weighing.
 use Rattle.std.specs.Prelude.{ℕ}
 use Rattle.board.specs.declared.weighed.Weighed.{Weighed}
 

@@ -67,8 +67,8 @@ fn find_not_entrant(table: &MethodTable, serial: u64) -> Result<Code, RetireFaul
     }
 }
 
-// Stores in the board that the replaced code, if any, is not entrant, and then that the new code is in use in its
-// vacant slot.
+// Stores in the board that the new code is in use in its vacant slot. Before that, it stores that the code it replaces, if any, is not
+// entrant.
 fn store_new(keeper: &mut Keeper, board: &Board, installed: Installed)
     requires board { keeper.old.board ≡ board.now }
     requires old { IfSome installed.replaced (λ old.
@@ -127,16 +127,15 @@ impl<N: Name> Codes<N> {
         }
     }
 
-    /// Returns why `install` refuses the method, except for lack of memory.
+    /// Why `install` refuses the method, except for lack of memory.
     pub fn refusal(&self, method: u64) -> Option<InstallFault>
         ensures { result ≡ install_fault self.now.table method }
     {
         self.table.refusal(method)
     }
 
-    /// Adds a new code for the method to the table and stores its entry in the board. If another code is in use for the
-    /// method, that code becomes not entrant first, in the table and in the board. Refusals in the order of
-    /// `InstallFault`.
+    /// Adds a new code for the method to the table and stores its entry in the board. If another code is in use for the method, it becomes
+    /// not entrant first, in the table and in the board.
     pub fn install(&mut self, board: &Board, method: u64) -> Result<Installed, InstallFault>
         requires board { board.now ≡ N.board }
 
@@ -166,7 +165,7 @@ impl<N: Name> Codes<N> {
         Ok(installed)
     }
 
-    /// Makes the code not entrant, in the table and in the board. Refusals in the order of `InvalidateFault`.
+    /// Makes the code not entrant, in the table and in the board.
     pub fn invalidate(&mut self, board: &Board, serial: u64) -> Result<CodeId, InvalidateFault>
         requires board { board.now ≡ N.board }
 
@@ -195,7 +194,7 @@ impl<N: Name> Codes<N> {
         Ok(id)
     }
 
-    /// Begins the next moment (epoch). Refused at the last one.
+    /// Begins the next moment (epoch).
     pub fn round(&mut self, board: &Board) -> Result<(), Spent>
         requires board { board.now ≡ N.board }
         ensures ok { OnOk result
@@ -211,8 +210,8 @@ impl<N: Name> Codes<N> {
         self.keeper.round(board)
     }
 
-    /// Looks at a place for a code that is not entrant. Returns whether the place is covered: it can't have an
-    /// uncounted frame of the code any more. Refusals in the order of `RetireFault`.
+    /// Looks at a place for a code that is not entrant. Returns whether the place is covered: it can't have an uncounted frame of the code
+    /// any more.
     pub fn look(&mut self, board: &Board, serial: u64, place: usize) -> Result<bool, RetireFault>
         requires board { board.now ≡ N.board }
         requires place { place < N.board.places }
@@ -233,7 +232,7 @@ impl<N: Name> Codes<N> {
         Ok(self.keeper.look(board, id_of(code), place))
     }
 
-    /// Looks for the code at each place below `places`, in ascending order. Refusals in the order of `RetireFault`.
+    /// Looks for the code at each place below `places`, in ascending order.
     #[inline(always)]
     pub fn look_at_all(
         &mut self,
@@ -259,8 +258,7 @@ impl<N: Name> Codes<N> {
         Ok(())
     }
 
-    /// Weighs the code. If it has no activation left, it becomes a zombie, in the table and in the board. Refusals in
-    /// the order of `RetireFault`.
+    /// Weighs the code. If it has no activation left, it becomes a zombie, in the table and in the board.
     pub fn weigh(&mut self, board: &Board, serial: u64) -> Result<Weighed, RetireFault>
         requires board { board.now ≡ N.board }
 
@@ -284,7 +282,7 @@ impl<N: Name> Codes<N> {
         Ok(said)
     }
 
-    /// Frees the slot of a zombie, in the table and in the board. Refusals in the order of `FreeFault`.
+    /// Frees the slot of a zombie, in the table and in the board.
     pub fn free(&mut self, board: &Board, serial: u64) -> Result<CodeId, FreeFault>
         requires board { board.now ≡ N.board }
 
@@ -312,22 +310,22 @@ impl<N: Name> Codes<N> {
         Ok(id)
     }
 
-    /// Law: the method table and the keeper's view agree.
+    /// The method table and the keeper's view agree.
     pub fn are_entries(&self)
         ensures { AreEntries self.now.table self.now.keeper }
     {
-        // This use makes the invariant known to the proof.
+        // This use shows the proof the invariant of the codes.
         let _ = &self.keeper;
     }
 
-    /// Returns whether the current moment (epoch) is the last one.
+    /// Whether the current moment (epoch) is the last one.
     pub fn is_last_moment(&self) -> bool
         ensures { result ≡ nat_le (2 ^ 40) (self.now.keeper.moment + 1) }
     {
         self.keeper.is_last_moment()
     }
 
-    /// Returns why `weigh` refuses the code; None if it doesn't.
+    /// Why `weigh` refuses the code; None if it doesn't.
     pub fn weigh_fault(&self, serial: u64) -> Option<RetireFault>
         ensures { result ≡ retire_fault (unfreed self.now.table.codes serial) }
     {

@@ -1,4 +1,4 @@
-//! Installs, invalidates and frees codes.
+//! Codes are installed, invalidated and freed.
 ghost use Rattle.std.specs.Prelude.{◌≡◌, ◌+◌, ◌<◌, Some, IfOk, IfErr, OnOk, option_map};
 ghost use Rattle.frames.specs.BoardViews.{slot_of, entry_stored, not_entrant, in_state};
 ghost use Rattle.frames.specs.declared.board_rule.EntryState.TheVariants.{Vacant};
@@ -19,9 +19,8 @@ use method_table::table::{FreeFault, Installed, InvalidateFault};
 use operations::job::HandshakeOp;
 
 impl<N: Name, J: HandshakeOp> Desk<N, J> {
-    /// Installs a code for the method, in the history and in the board, and returns it with the receipt of the Install.
-    /// If it replaces a code in use, the Invalidate of that code is entered and stored first, in room that was reserved
-    /// when that code was installed. Refusals in the order of `CodeFault`.
+    /// Installs a code for the method, in the history and in the board. If it replaces a code in use, the Invalidate of that code is
+    /// entered and stored first, in room that was reserved when that code was installed. The receipt is that of the Install.
     pub fn install(
         &mut self,
         board: &Board,
@@ -59,7 +58,7 @@ impl<N: Name, J: HandshakeOp> Desk<N, J> {
         }
     }
 
-    /// Makes a code not entrant, in the history and in the board. Refusals in the order of `InvalidateFault`.
+    /// Makes a code not entrant, in the history and in the board.
     pub fn invalidate(&mut self, board: &Board, serial: u64) -> Result<Receipt<N>, InvalidateFault>
         requires board { board.now ≡ N.board }
 
@@ -79,7 +78,7 @@ impl<N: Name, J: HandshakeOp> Desk<N, J> {
         Ok(self.log.enter(Entry::Invalidate(serial)))
     }
 
-    /// Frees the slot of a zombie, in the history and in the board. Refusals in the order of `FreeFault`.
+    /// Frees the slot of a zombie, in the history and in the board.
     pub fn free(&mut self, board: &Board, serial: u64) -> Result<Receipt<N>, FreeFault>
         requires board { board.now ≡ N.board }
 

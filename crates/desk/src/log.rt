@@ -1,10 +1,9 @@
 //! The history with the room that is reserved in it, the replies by operation, and the receipts of entries.
 //!
-//! Nothing reads an entry, so the entries exist only in proofs. Only their count and the replies of the threads are
-//! stored.
+//! Nothing reads an entry, so the entries exist only in proofs. Only their count and the replies of the threads are stored.
 //!
-//! The first part of the history can be forgotten: contracts still see the whole history, but the forgotten entries no
-//! longer count. The replies to the first operations can be forgotten too; contracts see which.
+//! The first part of the history can be forgotten: contracts still see the whole history, but the forgotten entries no longer count. The
+//! replies to the first operations can be forgotten too; contracts see which.
 ghost use Rattle.std.specs.Prelude.{◌≡◌, ℕ, ◌+◌, ◌-◌, ◌<◌, ◌≤◌, [], ◌∷◌, ◌++◌, length, drop, true, false, None, OnOk, IfOk, IfErr};
 ghost use Rattle.desk.specs.declared.entries.Entry.{Entry as EntryOf};
 ghost use Rattle.desk.specs.Fields.{install_entries, kept_before};
@@ -28,8 +27,8 @@ use std::snapshot::Snapshot;
 /// The largest number of entries in a history, without the forgotten ones.
 pub const MOST: usize = 1_000_000;
 
-/// The receipt of an entry: the entry and its place in the history of the desk of N. Only a log makes one. It exists
-/// only in proofs and takes no memory.
+/// The receipt of an entry: the entry and its place in the history of the desk of N. Only a log makes one. It exists only in proofs and
+/// takes no memory.
 #[derive(Drop)]
 pub struct Receipt<N: Name> {
     before: Snapshot<Past>,
@@ -64,16 +63,15 @@ impl<N: Name> Model for Length<N> {
     ghost view = { λ l. length l.past.value.entries };
 }
 
-/// The log. Contracts see the entries, the number of further entries with reserved room, the replies to each operation
-/// that was asked, and for how many more operations and replies there is memory.
+/// Contracts see the entries, the number of further entries with room reserved, the replies to each operation that was asked, and for how
+/// many more operations and replies there is memory.
 #[derive(Drop)]
 pub struct Log<N: Name> {
     past: Past,
     /// The number of entries, without the forgotten ones.
     count: usize,
     reserved: usize,
-    /// The last operation whose replies were forgotten. A Finish reads it, so it lies beside the fields that a Finish
-    /// changes.
+    /// The last operation whose replies were forgotten. A Finish reads it, so it lies beside the fields that a Finish changes.
     forgotten: u64,
     replies: Replies,
     of: PhantomData<N>,
@@ -143,7 +141,7 @@ fn append<N: Name>(past: &mut Past, count: &mut usize, entry: Snapshot<Entry>) -
     }
 }
 
-/// Returns the entry of an Ask as contracts see it, and gives the request back.
+/// The entry of an Ask as contracts see it, and the request, which is returned.
 #[inline(always)]
 pub fn seen_as_ask(number: u64, request: Request) -> (Snapshot<Entry>, Request)
     ensures { (result.0.value ≡ Entry.Ask number request) × (result.1 ≡ request) }
@@ -173,8 +171,8 @@ impl<N: Name> Log<N> {
         }
     }
 
-    /// Returns the replies to an operation, each with its thread's name, in the order of the entries; none if they were
-    /// forgotten. Refused only if memory is refused.
+    /// The replies to an operation, each with its thread's name, in the order of the entries; none if they were forgotten. Refused only if
+    /// memory is refused.
     pub fn replies(&self, alloc: Global, op: u64) -> Result<Vec<(u64, u64)>, AllocError>
         ensures { IfOk result (λ list. list.items ≡ replies_kept op self.now.book) }
     {
@@ -184,7 +182,7 @@ impl<N: Name> Log<N> {
         }
     }
 
-    /// Returns the length of the history.
+    /// The length of the history.
     pub fn length(&self) -> Length<N>
         ensures { result ≡ length self.now.book.history }
     {
@@ -194,21 +192,21 @@ impl<N: Name> Log<N> {
         }
     }
 
-    /// Returns the last operation whose replies were forgotten.
+    /// The last operation whose replies were forgotten.
     pub fn forgotten(&self) -> u64
         ensures { result ≡ self.now.book.gone.operations }
     {
         self.forgotten
     }
 
-    /// Returns whether the history has room for more entries.
+    /// Whether the history has room for more entries.
     pub fn has_room(&self, more: usize) -> bool
         ensures { result ≡ has_room (entries_kept self.now.book) self.now.book.reserved more }
     {
         fits(self.count, self.reserved, more)
     }
 
-    /// Reserves room for more entries. Returns false if the history hasn't that much room.
+    /// Reserves room for more entries; false if the history hasn't that much room.
     pub fn keep(&mut self, more: usize) -> bool
         ensures answer { result ≡ has_room (entries_kept self.old.book) self.old.book.reserved more }
         ensures kept { result ≡ true → self.new.book.reserved ≡ self.old.book.reserved + more }
@@ -238,8 +236,8 @@ impl<N: Name> Log<N> {
         self.reserved -= less;
     }
 
-    /// Reserves room for all entries and replies that a request can cause. Returns the number of its targets. Refused
-    /// with `HistoryFull`, then `NoMemory`; then nothing is reserved.
+    /// Reserves room for all entries and replies that a request can cause, and returns the number of its targets. A refusal reserves
+    /// nothing.
     #[inline(always)]
     pub fn keep_request(&mut self, request: &Request) -> Result<usize, RoomFault>
         requires steps { steps_of request.now ≤ 64 }
@@ -289,8 +287,8 @@ impl<N: Name> Log<N> {
         append(&mut self.past, &mut self.count, seen)
     }
 
-    /// Appends the entries of an install: the Invalidate of the replaced code, if any, and then the Install. Returns
-    /// the receipt of the Install.
+    /// Appends the entries of an install: the Invalidate of the code that it replaces, if any, and then the Install. The receipt is that of
+    /// the Install.
     pub fn enter_install(&mut self, installed: Installed, method: u64) -> Receipt<N>
         requires reserved { 1 < self.old.book.reserved }
 
@@ -352,8 +350,8 @@ impl<N: Name> Log<N> {
         append(&mut self.past, &mut self.count, Snapshot::of(&entry))
     }
 
-    /// Forgets the entries so far, so that they don't count, and the replies to the operations up to `last`. Their
-    /// memory is reused.
+    /// Forgets the entries so far, which no longer count, and the replies to the operations up to `last`. The memory of these replies is
+    /// reused.
     pub fn forget(&mut self, last: u64)
         requires later { self.old.book.gone.operations ≤ last }
         requires given { last ≤ self.old.book.gone.operations + length self.old.lists }

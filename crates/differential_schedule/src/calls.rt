@@ -12,12 +12,11 @@ pub enum ThreadCall {
     Ret,
     BackEdge,
     Publish,
-    // Where the thread goes, and from where it comes back.
     ToVm,
-    ToNative,
-    Block,
     FromVm,
+    ToNative,
     FromNative,
+    Block,
     Unblock,
     Stop,
 }

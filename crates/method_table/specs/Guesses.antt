@@ -1,4 +1,4 @@
--- The slot cache at the start.
+-- The slots that are guessed.
 use Rattle.std.specs.Prelude.{ℕ, List, replicate}
 
 abbrev pub no_guess : List ℕ

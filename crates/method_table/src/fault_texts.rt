@@ -1,4 +1,4 @@
-//! The texts of the table's faults.
+//! What the faults of the table's calls say of themselves.
 use crate::table::{FreeFault, InstallFault, InvalidateFault, RetireFault};
 use std::error::Error;
 use std::fmt;

@@ -1,4 +1,4 @@
-// The method table: a record for each slot, and the code in use for each method.
+// The table: a record for each slot, and the code in use for each method.
 ghost use Rattle.std.specs.Prelude.{◌≡◌, ℕ, ◌+◌, ◌<◌, ◌≤◌, List, [], ◌∷◌, length, true, false, not, Some, None, Option, option_map, slice_get, slice_set, IfOk, OnOk, OnErr, IfErr, IfSome, IfNone, find, ◌==◌, ◌&&◌};
 ghost use Rattle.method_table.specs.Codes.{takes_slot, id_of, code_of, unfreed, in_use_for, free_slot, next_serial, with_code, with_state, without_use};
 ghost use Rattle.method_table.specs.Kept.{holds, least_free, with_record};
@@ -16,7 +16,7 @@ use std::alloc::{AllocError, Global};
 use std::collections::HashMap;
 use std::marker::Model;
 
-/// Why an install is refused: the first cause in this order.
+/// Why a method gets no code, in the order of the tests.
 #[derive(Clone, Copy, Debug, PartialEq, Eq, Drop)]
 pub enum InstallFault {
     NoSuchMethod,
@@ -25,35 +25,35 @@ pub enum InstallFault {
     NoMemory,
 }
 
-/// The result of an install: the new code, and the code that it replaced, which is not entrant from then on.
+/// What an install came to: the new code, and the one that was in use for the method until then, which is not entrant from now on.
 #[derive(Clone, Copy, Debug, PartialEq, Eq, Drop)]
 pub struct Installed {
     pub code: CodeId,
     pub replaced: Option<CodeId>,
 }
 
-/// Why an invalidation is refused: the first cause in this order.
+/// Why a code is not invalidated, in the order of the tests.
 #[derive(Clone, Copy, Debug, PartialEq, Eq, Drop)]
 pub enum InvalidateFault {
     Unknown,
     NotInUse,
 }
 
-/// Why a code doesn't become a zombie: the first cause in this order.
+/// Why a code is not retired, in the order of the tests.
 #[derive(Clone, Copy, Debug, PartialEq, Eq, Drop)]
 pub enum RetireFault {
     Unknown,
     NotNotEntrant,
 }
 
-/// Why a code isn't freed: the first cause in this order.
+/// Why a code is not freed, in the order of the tests.
 #[derive(Clone, Copy, Debug, PartialEq, Eq, Drop)]
 pub enum FreeFault {
     Unknown,
     NotZombie,
 }
 
-/// The result of a call of a method through a code.
+/// Where a call of a method by way of a code leads.
 #[derive(Clone, Copy, Debug, PartialEq, Eq, Drop)]
 pub enum Entry {
     Enters(CodeId),
@@ -61,7 +61,7 @@ pub enum Entry {
     WrongMethod,
 }
 
-/// All codes ever installed, at most one in use for each method.
+/// All codes that were ever installed, at most one in use for each method.
 #[derive(Drop)]
 pub struct MethodTable {
     slots: u32,
@@ -92,7 +92,7 @@ impl Model for MethodTable {
         t.current.items t.taken };
 }
 
-// The least slot without an unfreed code. All slots below `taken` have one.
+// The least slot without an unfreed code, where no slot below is free.
 fn least_free(records: &[Code], slots: u32, taken: usize) -> Option<u32>
     requires few { length records.now ≤ slots }
     requires full { (slot : ℕ) → slot < taken → holds (slice_get records.now slot) ≡ true }
@@ -110,7 +110,7 @@ fn least_free(records: &[Code], slots: u32, taken: usize) -> Option<u32>
     }
 }
 
-// Stores a record in its slot, or at the end.
+// Puts a record into its slot, or behind the last one.
 fn put(records: &mut Vec<Code>, code: Code) -> Result<(), AllocError>
     requires { code.slot ≤ length records.old.items }
     ensures ok { OnOk result (records.new.items ≡ with_record records.old.items code) }
@@ -124,6 +124,7 @@ fn put(records: &mut Vec<Code>, code: Code) -> Result<(), AllocError>
     Ok(())
 }
 
+// The code in a slot comes into a state.
 fn set_state(records: &mut Vec<Code>, slot: u32, state: CodeState)
     requires { slot < length records.old.items }
     ensures { (code : Code) → slice_get records.old.items slot ≡ Some code
@@ -132,7 +133,7 @@ fn set_state(records: &mut Vec<Code>, slot: u32, state: CodeState)
     records[slot as usize].state = state;
 }
 
-// Makes the replaced code, if any, not entrant.
+// The code that was in use, where there was one, is not entrant.
 fn replace(records: &mut Vec<Code>, history: &mut History, old: Option<CodeId>)
     requires { IfSome old (λ id. id.slot < length records.old.items) }
     ensures codes { IfSome old
@@ -154,10 +155,7 @@ fn replace(records: &mut Vec<Code>, history: &mut History, old: Option<CodeId>)
 }
 
 impl MethodTable {
-    /// Makes an empty table with this many slots and methods.
-    ///
-    /// # Errors
-    /// Memory is refused.
+    /// An empty table, with as many slots and methods as are given.
     pub fn new(alloc: Global, slots: u32, methods: u32) -> Result<MethodTable, AllocError>
         ensures { IfOk result
             (λ table. table ≡ record { codes = []; slots = slots; methods = methods }) }
@@ -174,14 +172,14 @@ impl MethodTable {
         })
     }
 
-    /// Returns why an install for the method would be refused, apart from `NoMemory`.
+    /// Why the method gets no code, but for want of memory.
     pub fn refusal(&self, method: u64) -> Option<InstallFault>
         ensures { result ≡ install_fault self.now method }
     {
         self.slot_for(method).err()
     }
 
-    // The slot of the method's next code.
+    // The slot of a new code of the method.
     fn slot_for(&self, method: u64) -> Result<u32, InstallFault>
         ensures slot { IfOk result (λ slot. free_slot self.now.codes self.now.slots ≡ Some slot) }
         ensures accepted { OnOk result (install_fault self.now method ≡ None) }
@@ -199,11 +197,8 @@ impl MethodTable {
         Ok(slot)
     }
 
-    /// Installs a new code for the method, with the next serial and the least free slot. The method's former code in
-    /// use becomes not entrant.
-    ///
-    /// # Errors
-    /// The first cause in the order of `InstallFault`; the table is unchanged.
+    /// A new code for the method, in use: it has the next serial and the least free slot. The code that was in use for the method is not
+    /// entrant from now on.
     pub fn install(&mut self, method: u64) -> Result<Installed, InstallFault>
         ensures slot { IfOk result
             (λ r. free_slot self.old.codes self.old.slots ≡ Some r.code.slot) }
@@ -257,10 +252,7 @@ impl MethodTable {
         Ok(Installed { code: id, replaced })
     }
 
-    /// Makes a code in use not entrant: no thread may enter it from then on.
-    ///
-    /// # Errors
-    /// The first cause in the order of `InvalidateFault`; the table is unchanged.
+    /// No new activation of the code from now on: it is not entrant.
     pub fn invalidate(&mut self, serial: u64) -> Result<(), InvalidateFault>
         ensures codes { OnOk result (self.new
             ≡ record self.old { codes = with_state self.old.codes serial NotEntrant }) }
@@ -285,10 +277,7 @@ impl MethodTable {
         Ok(())
     }
 
-    /// Makes a code not entrant a zombie. The caller must know that no frame of the code is left.
-    ///
-    /// # Errors
-    /// The first cause in the order of `RetireFault`; the table is unchanged.
+    /// No activation of the code is left: it is a zombie.
     pub fn retire(&mut self, serial: u64) -> Result<(), RetireFault>
         ensures codes { OnOk result (self.new
             ≡ record self.old { codes = with_state self.old.codes serial Zombie }) }
@@ -312,10 +301,7 @@ impl MethodTable {
         Ok(())
     }
 
-    /// Frees a zombie and its slot.
-    ///
-    /// # Errors
-    /// The first cause in the order of `FreeFault`; the table is unchanged.
+    /// The code is gone, and its slot is free.
     pub fn free(&mut self, serial: u64) -> Result<(), FreeFault>
         ensures codes { OnOk result (self.new
             ≡ record self.old { codes = with_state self.old.codes serial Freed }) }
@@ -341,7 +327,7 @@ impl MethodTable {
         Ok(())
     }
 
-    /// Returns the code's state, or `None` if the serial was never given out.
+    /// The state of the code, None where the serial was never given out.
     pub fn state(&self, serial: u64) -> Option<CodeState>
         ensures { result ≡ option_map (λ code. code.state) (code_of self.now.codes serial) }
     {
@@ -358,7 +344,7 @@ impl MethodTable {
         Some(code.state)
     }
 
-    /// Returns the method's code in use.
+    /// The code in use for the method.
     pub fn current(&self, method: u64) -> Option<CodeId>
         ensures sound { IsTable self.now }
         ensures value { result ≡ option_map id_of (in_use_for self.now.codes method) }
@@ -370,7 +356,7 @@ impl MethodTable {
         }
     }
 
-    /// Returns the code of the serial, or `None` if the serial was never given out or the code is freed.
+    /// The code of the serial, None where the serial was never given out or was freed.
     pub fn find(&self, serial: u64) -> Option<Code>
         ensures sound { IsTable self.now }
         ensures value { result ≡ unfreed self.now.codes serial }
@@ -387,7 +373,7 @@ impl MethodTable {
         self.noted(serial)
     }
 
-    // Looks the serial up in the index. This function isn't inlined, since mostly the guess is right.
+    // The code of the serial, by the index. It is a call, since mostly the guess is right.
     #[inline(never)]
     fn noted(&self, serial: u64) -> Option<Code>
         ensures sound { IsTable self.now }
@@ -399,7 +385,7 @@ impl MethodTable {
         }
     }
 
-    /// Returns the result of a call of the method through the code, or `None` if the serial was never given out.
+    /// Where a call of the method by way of the code leads, None where the serial was never given out.
     pub fn entry(&self, method: u64, serial: u64) -> Option<Entry>
         ensures { result ≡ option_map (entry_of method) (code_of self.now.codes serial) }
     {
@@ -424,7 +410,7 @@ impl MethodTable {
         Some(entry_of(method, code))
     }
 
-    /// Returns the number of slots.
+    /// How many slots there are.
     pub fn slots(&self) -> u32
         ensures value { result ≡ self.now.slots }
         ensures sound { IsTable self.now }
@@ -433,7 +419,7 @@ impl MethodTable {
         self.slots
     }
 
-    /// Returns the number of methods.
+    /// How many methods there are.
     pub fn methods(&self) -> usize
         ensures { result ≡ self.now.methods }
     {

@@ -1,4 +1,4 @@
-// Replies to asks.
+// What a stack answers.
 ghost use Rattle.std.specs.Prelude.{◌≡◌};
 ghost use Rattle.operations.specs.Asks.{reply};
 
@@ -6,7 +6,7 @@ use crate::Ask;
 use frames::image::Image;
 
 impl Ask {
-    /// Returns the ask's reply for the stack, with published and unpublished frames. Doesn't allocate.
+    /// What the ask says of the frames as they stand, published or not. Takes no memory.
     pub fn reply_on(self, image: &Image) -> u64
         ensures { result ≡ reply self image.now.frames }
     {

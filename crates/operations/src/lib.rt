@@ -1,5 +1,5 @@
-//! Requests to threads, the queue in which requests wait, and the jobs that answer them.
-//! `system`, `bodies`, `desk` and all crates above them use this crate.
+//! What is asked of the threads: requests that wait in a queue, and the jobs that answer them.
+//! The core and the running layer use it: `system`, `bodies`, `desk` and all above them.
 //! Read `src/requests.rt` first, then `src/job.rt` and `specs/Asks.antt`.
 #![tactic(auto)]
 
@@ -12,18 +12,18 @@ pub mod job;
 pub mod queue;
 pub mod requests;
 
-/// The question of a handshake to each target.
+/// What a handshake asks of each target.
 #[derive(Clone, Copy, Debug, PartialEq, Eq, Drop)]
 pub enum Ask {
     /// The number of frames.
     Depth,
     /// The number of frames whose code has the serial.
     CountOf(u64),
-    /// The serial of the top frame's code; 0 if that frame is interpreted or the stack is empty.
+    /// The serial of the top frame's code; 0 where it is interpreted or there is none.
     Top,
 }
 
-/// Names of threads, in the given order.
+/// Names of threads, in the order in which they were given.
 #[derive(Debug, Drop)]
 pub struct Targets {
     names: Vec<u64>,
@@ -50,7 +50,7 @@ impl Targets {
         self.names.as_slice()
     }
 
-    /// Returns the list without allocating.
+    /// Gives the list back, without memory.
     pub fn into_vec(self) -> Vec<u64>
         ensures { result.items ≡ self }
     {
@@ -59,14 +59,14 @@ impl Targets {
     }
 }
 
-/// A handshake of the listed threads, or a census of all threads.
+/// A handshake of the threads that it lists, or a census of all.
 #[derive(Debug, Drop)]
 pub enum Request {
     Handshake { targets: Targets, ask: Ask },
     Census,
 }
 
-/// The kind of a request.
+/// Which of the two a request is.
 #[derive(Clone, Copy, Debug, PartialEq, Eq, Drop)]
 pub enum Kind {
     Handshake,

@@ -1,4 +1,4 @@
-// The queue of waiting requests.
+// Requests that wait, the oldest first.
 ghost use Rattle.std.specs.Prelude.{◌≡◌, ◌≢◌, ◌≤◌, ◌↔◌, [], ◌∷◌, ◌++◌, length, not, nat_lt, IsTrue, Some, IfErr, IfSome, IfNone, OnOk, OnErr, option_map, slice_get};
 ghost use Rattle.operations.specs.Queues.{MayWait, IsCause};
 
@@ -10,7 +10,7 @@ use std::marker::Model;
 /// How many requests can wait.
 pub const WAITING: usize = 64;
 
-/// A waiting request with its number and its load.
+/// A request that waits, with its number and its load.
 #[derive(Debug, Drop)]
 pub struct Waiting<T> {
     pub number: u64,
@@ -18,10 +18,10 @@ pub struct Waiting<T> {
     pub load: T,
 }
 
-/// Why the queue refuses a request: the first cause in this order.
+/// Why a request doesn't wait: the first cause in this order.
 #[derive(Clone, Copy, Debug, PartialEq, Eq, Drop)]
 pub enum QueueFault {
-    /// 64 requests wait.
+    /// 64 wait.
     QueueFull,
     /// A handshake lists no name.
     NoTargets,
@@ -30,7 +30,7 @@ pub enum QueueFault {
     NoMemory,
 }
 
-/// A refused request with its load.
+/// A request that was refused, with all that was handed in.
 #[derive(Debug, Drop)]
 pub struct Unqueued<T> {
     pub fault: QueueFault,
@@ -38,7 +38,7 @@ pub struct Unqueued<T> {
     pub load: T,
 }
 
-/// Waiting requests, first in, first out.
+/// Requests in the order in which they were asked: first in, first out.
 #[derive(Drop)]
 pub struct Queue<T> {
     waiting: VecDeque<Waiting<T>>,
@@ -56,7 +56,7 @@ impl<T> Model for Queue<T> {
 }
 
 impl<T> Queue<T> {
-    /// Makes an empty queue. Doesn't allocate.
+    /// Takes no memory.
     pub fn new(alloc: Global) -> Queue<T>
         ensures { result ≡ [] }
     {
@@ -65,7 +65,7 @@ impl<T> Queue<T> {
         }
     }
 
-    /// Returns how many requests wait, at most 64.
+    /// How many requests wait.
     pub fn len(&self) -> usize
         ensures value { result ≡ length self.now }
         ensures bound { result ≤ 64 }
@@ -79,21 +79,21 @@ impl<T> Queue<T> {
         self.waiting.is_empty()
     }
 
-    /// Returns whether 64 requests wait.
+    /// Whether no further request can wait.
     pub fn is_full(&self) -> bool
         ensures { result ≡ not (nat_lt (length self.now) 64) }
     {
         self.len() >= WAITING
     }
 
-    /// Returns the oldest request.
+    /// The oldest request.
     pub fn front(&self) -> Option<&Waiting<T>>
         ensures { option_map (λ oldest. oldest.now) result ≡ slice_get self.now 0 }
     {
         self.waiting.front()
     }
 
-    /// Returns why the queue refuses the request, apart from `NoMemory`.
+    /// Why the request wouldn't wait, but for want of memory.
     pub fn refusal(&self, request: &Request) -> Option<QueueFault>
         ensures cause { IfSome result (IsCause (length self.now) request.now) }
         ensures not_memory { result ≢ Some QueueFault.NoMemory }
@@ -110,11 +110,7 @@ impl<T> Queue<T> {
         }
     }
 
-    /// Adds a request at the end.
-    ///
-    /// # Errors
-    /// The first cause in the order of `QueueFault`. Then the request comes back with its load, and the queue is
-    /// unchanged.
+    /// Puts a request last. One that is refused comes back with its load, and the queue stays as it was.
     pub fn push(&mut self, number: u64, request: Request, load: T) -> Result<(), Unqueued<T>>
         ensures ok { OnOk result (self.new ≡ self.old
             ++ record { number = number; request = request; load = load } ∷ []) }
@@ -133,10 +129,8 @@ impl<T> Queue<T> {
         self.push_tested(number, request, load)
     }
 
-    /// Adds a request, which `refusal` accepts, at the end.
-    ///
-    /// # Errors
-    /// `NoMemory`. Then the request comes back with its load, and the queue is unchanged.
+    /// Puts a request last that was tested and may wait: it is refused for want of memory alone, and comes back then with its load, and
+    /// the queue stays as it was.
     #[inline(always)]
     pub fn push_tested(&mut self, number: u64, request: Request, load: T) -> Result<(), Unqueued<T>>
         requires tested { MayWait (length self.old) request }
@@ -161,7 +155,7 @@ impl<T> Queue<T> {
         Ok(())
     }
 
-    /// Removes and returns the oldest request. Doesn't allocate.
+    /// Takes the oldest request. Takes no memory.
     pub fn pop(&mut self) -> Option<Waiting<T>>
         ensures oldest { IfSome result (λ oldest. self.old ≡ oldest ∷ self.new) }
         ensures none { IfNone result ((self.old ≡ []) × (self.new ≡ [])) }

@@ -1,4 +1,4 @@
-//! The acts of a party, and why an act isn't done.
+//! What a party is asked to do, and why it doesn't.
 ghost use Rattle.std.specs.Prelude.{◌≡◌};
 
 use coordinator_core::{HoldFault, OperateFault, ReleaseFault, ServeFault, TellFault};
@@ -6,10 +6,10 @@ use desk::{AskFault, CloseFault, CodeFault, OpenFault, ReclaimFault, StartFault}
 use method_table::table::InvalidateFault;
 use operations::Ask;
 
-/// An act of a party.
+/// What a party is asked to do.
 #[derive(Clone, Copy, PartialEq, Eq, Debug, Drop)]
 pub enum Act {
-    /// The party becomes a thread and starts.
+    /// The party becomes a thread, and starts.
     Start,
     Call(u32),
     Ret,
@@ -28,76 +28,67 @@ pub enum Act {
     Name,
     Place,
     State,
-    /// Adds the name to the targets of the next request.
+    /// The name is one of the targets of the next request.
     Target(u64),
-    /// Makes all threads that are live at the Submit the targets of the next request.
-    TargetAll,
-    /// Queues a handshake of the targets or, for None, a census.
+    /// A handshake of the targets waits, or (None) a census.
     Submit(Option<Ask>),
     Install(u32),
     Invalidate(u64),
-    /// The reply in an operation (the first number) of a name (the second).
+    /// The reply of a name in an operation.
     Reply(u64, u64),
-    /// The least live name above this one.
+    /// The least name above this one that is live.
     LiveAfter(u64),
-    /// The kind of the open requests, as a number.
+    /// Of which kind what is open is, as a number.
     OpenKind,
-    /// The least number of an open or waiting request, 0 without one.
-    Pending,
     Forget,
     Open,
     Tell(u64),
     Hold(usize),
     Serve(usize),
     Release(usize),
-    /// Operates the open census over the held threads.
+    /// The census that is open is operated over the held threads.
     Operate,
-    /// How many frames the code of the serial had in the last operated census.
+    /// How many frames the code of the serial had in the census that was operated last.
     Counted(u64),
-    /// Closes the open request of the number or, for None, the oldest.
+    /// The open request of the number closes, or (None) the oldest.
     Close(Option<u64>),
-    /// Advances the work on the open requests as far as it goes without waiting: the number of the request that it
-    /// closed.
+    /// The work on the open requests goes on as far as it can without waiting: the number of the request that it closed.
     Advance,
-    /// The operation of the host's next callback, 0 without one.
+    /// The operation for which a held thread is served next, 0 without one.
     CalledOperation,
-    /// The place of the held thread of that callback.
+    /// The place of that thread.
     CalledPlace,
     /// How many threads the work waits for.
     Awaited,
-    /// The first step of reclaiming a code: makes a round, and queues a handshake of the targets if there are any.
+    /// The first step of reclaiming a code: the round, and a handshake of the targets waits where there are any.
     Reclaim(u64),
-    /// The last step: weighs the code, and frees it if it has no activation.
+    /// The last: the code is weighed, and freed where no activation stands.
     Weigh(u64),
 }
 
 /// Why an act isn't done.
 #[derive(Clone, Copy, PartialEq, Eq, Debug, Drop)]
 pub enum Fault {
-    /// A lock is taken, or something that the act needs isn't there. Try again.
+    /// What it needs isn't there, or a lock is taken: it may be asked again.
     Again,
     NoMemory,
-    /// Parties of this role don't do the act.
+    /// The party isn't in this part.
     NotThis,
-    /// The thread's state doesn't allow the act.
+    /// The thread isn't in the state for this.
     Illegal,
     NoSuchMethod,
     DepthFull,
     EmptyStack,
     StackNotEmpty,
-    /// The operation isn't closed and has no reply of the name.
-    Pending,
-    /// No reply of the name in the operation is stored.
+    /// No answer of the name in the operation is kept.
     NotAnswered,
-    /// The code can't be weighed.
+    /// The code isn't one that can be weighed.
     NotWeighed,
-    /// The least place whose thread may still enter the code, or may have entered it and not published since.
+    /// The least place whose thread may still enter the code, or have entered it without having published that.
     Late(usize),
-    /// A held thread is served next. The host may run its part of that handshake before.
+    /// A held thread is served next. The host may run its part of that operation now.
     Runs,
-    /// The census is operated, and all live threads are held. The host may run its VM operation.
-    AtSafepoint,
-    /// Threads of the request aren't at a safepoint yet.
+    /// Threads of the request aren't at a safe point yet.
     Awaits,
     Start(StartFault),
     Ask(AskFault),

@@ -1,8 +1,8 @@
-//! A lookup in a list of pairs.
+//! What stands with a key in a list of pairs.
 ghost use Rattle.std.specs.Prelude.{◌≡◌};
 ghost use Rattle.parties.specs.Pairs.{first_of};
 
-/// The value of the first pair with the key.
+/// What stands with the key at its first.
 pub(crate) fn first_of<T: Copy>(list: &[(u64, T)], key: u64) -> Option<T>
     ensures { result ≡ first_of key list.now }
 {

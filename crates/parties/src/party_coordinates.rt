@@ -1,4 +1,4 @@
-//! The coordinator's acts. Each is refused with `NotThis` for another party, and with `Again` if a lock is taken.
+//! What the coordinator does.
 ghost use Rattle.std.specs.Prelude.{◌≡◌};
 ghost use Rattle.parties.specs.Acted.{Acts};
 
@@ -10,7 +10,7 @@ use crate::weighed::told_of;
 use bodies::Name;
 
 impl<N: Name> Party<N> {
-    /// Opens the oldest waiting request. Returns its number.
+    /// Opens the oldest request that waits: its number.
     pub fn open(&mut self) -> Result<u64, Fault>
         ensures { Acts N.board.places self.old Act.Open result self.new }
     {
@@ -21,8 +21,7 @@ impl<N: Name> Party<N> {
         Ok(number)
     }
 
-    /// Arms the named thread for its oldest pending request. Returns the number with which its place is armed, 0 if the
-    /// name is gone.
+    /// Tells a name: the number that its place is armed with, 0 where the name is gone.
     pub fn tell(&mut self, name: u64) -> Result<u64, Fault>
         ensures { Acts N.board.places self.old (Act.Tell name) result self.new }
     {
@@ -35,7 +34,7 @@ impl<N: Name> Party<N> {
         }
     }
 
-    /// Holds the thread of a place. Returns the number of the oldest operation that the thread owes.
+    /// Holds the thread of a place: the number of the oldest operation that it owes.
     pub fn hold(&mut self, place: usize) -> Result<u64, Fault>
         ensures { Acts N.board.places self.old (Act.Hold place) result self.new }
     {
@@ -46,7 +45,7 @@ impl<N: Name> Party<N> {
         Ok(number)
     }
 
-    /// Serves the held thread of a place. Returns the number of the operation.
+    /// Serves the held thread of a place: the number of the operation.
     pub fn serve(&mut self, place: usize) -> Result<u64, Fault>
         ensures { Acts N.board.places self.old (Act.Serve place) result self.new }
     {
@@ -57,7 +56,7 @@ impl<N: Name> Party<N> {
         Ok(number)
     }
 
-    /// Releases the held thread of a place.
+    /// Lets the held thread of a place go.
     pub fn release(&mut self, place: usize) -> Result<u64, Fault>
         ensures { Acts N.board.places self.old (Act.Release place) result self.new }
     {
@@ -68,7 +67,7 @@ impl<N: Name> Party<N> {
         Ok(0)
     }
 
-    /// Operates the open census over the held threads. Returns its number.
+    /// Operates the open census over the held threads: its number.
     pub fn operate(&mut self) -> Result<u64, Fault>
         ensures { Acts N.board.places self.old Act.Operate result self.new }
     {
@@ -84,7 +83,7 @@ impl<N: Name> Party<N> {
         Ok(number)
     }
 
-    /// Closes the open request of the number or, without one, the oldest. Returns its number.
+    /// Closes the open request of the number, or without one the oldest: its number.
     pub fn close(&mut self, number: Option<u64>) -> Result<u64, Fault>
         ensures { Acts N.board.places self.old (Act.Close number) result self.new }
     {
@@ -95,7 +94,7 @@ impl<N: Name> Party<N> {
         Ok(number)
     }
 
-    /// Weighs a code, and frees it if it has no activation. Returns how many activations it has.
+    /// Weighs a code, and frees it where no activation stands: 0 then, or how many stand.
     pub fn weigh(&mut self, serial: u64) -> Result<u64, Fault>
         ensures { Acts N.board.places self.old (Act.Weigh serial) result self.new }
     {
@@ -106,7 +105,7 @@ impl<N: Name> Party<N> {
         told_of(reclaimed)
     }
 
-    /// Returns how many frames the code of the serial had in the last operated census. Any party may call it.
+    /// How many frames the code of the serial had in the census that was operated last.
     pub fn counted(&mut self, serial: u64) -> Result<u64, Fault>
         ensures { Acts N.board.places self.old (Act.Counted serial) result self.new }
     {

@@ -1,5 +1,4 @@
-//! The acts of a thread. Each is refused with `NotThis` for another party. A poll's number is the one that the poll
-//! word is armed with, or 0 if the thread continues.
+//! What a thread does.
 ghost use Rattle.std.specs.Prelude.{◌≡◌, ◌≢◌, Ok, Err, IfOk, IfErr};
 ghost use Rattle.parties.specs.Asked.{WasStarted};
 ghost use Rattle.parties.specs.Acted.{Acts, GivesUp, StartFails, code_of};
@@ -32,7 +31,7 @@ fn code_of(state: State) -> u64
 }
 
 impl<N: Name> Party<N> {
-    /// Takes a back edge. Returns the poll's number.
+    /// A back edge: the number of the poll, 0 to go on.
     #[inline(always)]
     pub fn back_edge(&mut self) -> Result<u64, Fault>
         ensures { Acts N.board.places self.old Act.BackEdge result self.new }
@@ -40,7 +39,7 @@ impl<N: Name> Party<N> {
         let Role::Runs(runner) = &mut self.role else {
             return Err(Fault::NotThis);
         };
-        // One match, of which the compiler makes one path for a thread that continues.
+        // In one match, of which the compiler makes one path where the thread goes on.
         match runner.back_edge(self.system.row()) {
             Ok(Poll::Go) => Ok(0),
             Ok(Poll::Stop(n)) => Ok(n),
@@ -48,7 +47,7 @@ impl<N: Name> Party<N> {
         }
     }
 
-    /// Calls a method. Returns the serial of its code, 0 if it is interpreted.
+    /// A call: the serial of the code, 0 where it is interpreted.
     #[inline(always)]
     pub fn call(&mut self, method: u32) -> Result<u64, Fault>
         ensures { Acts N.board.places self.old (Act.Call method) result self.new }
@@ -66,7 +65,7 @@ impl<N: Name> Party<N> {
         }
     }
 
-    /// Returns from a method. Returns the poll's number.
+    /// A return: the number of the poll, 0 to go on.
     #[inline(always)]
     pub fn ret(&mut self) -> Result<u64, Fault>
         ensures { Acts N.board.places self.old Act.Ret result self.new }
@@ -119,7 +118,7 @@ impl<N: Name> Party<N> {
         }
     }
 
-    /// Goes into native code.
+    /// Into native code.
     #[inline(always)]
     pub fn to_native(&mut self) -> Result<u64, Fault>
         ensures { Acts N.board.places self.old Act.ToNative result self.new }
@@ -130,7 +129,7 @@ impl<N: Name> Party<N> {
         crossing::to_native(&self.system, runner)
     }
 
-    /// Comes back from native code. Returns the poll's number.
+    /// Back from native code: the number of the poll, 0 to go on.
     #[inline(always)]
     pub fn from_native(&mut self) -> Result<u64, Fault>
         ensures { Acts N.board.places self.old Act.FromNative result self.new }
@@ -141,7 +140,7 @@ impl<N: Name> Party<N> {
         crossing::from_native(&self.system, runner)
     }
 
-    /// Goes from the VM into a wait that the runtime knows of.
+    /// From the VM into a wait that the runtime knows of.
     pub fn block(&mut self) -> Result<u64, Fault>
         ensures { Acts N.board.places self.old Act.Block result self.new }
     {
@@ -151,7 +150,7 @@ impl<N: Name> Party<N> {
         crossing::block(&self.system, runner)
     }
 
-    /// Comes back from a wait. Returns the poll's number.
+    /// Back from a wait: the number of the poll, 0 to go on.
     pub fn unblock(&mut self) -> Result<u64, Fault>
         ensures { Acts N.board.places self.old Act.Unblock result self.new }
     {
@@ -161,7 +160,7 @@ impl<N: Name> Party<N> {
         crossing::unblock(&self.system, runner)
     }
 
-    /// Returns the thread's name.
+    /// The thread's name.
     pub fn name(&mut self) -> Result<u64, Fault>
         ensures { Acts N.board.places self.old Act.Name result self.new }
     {
@@ -171,7 +170,7 @@ impl<N: Name> Party<N> {
         Ok(runner.name())
     }
 
-    /// Returns the place of the thread and its words.
+    /// The place whose words are the thread's.
     pub fn place(&mut self) -> Result<u64, Fault>
         ensures { Acts N.board.places self.old Act.Place result self.new }
     {
@@ -181,7 +180,7 @@ impl<N: Name> Party<N> {
         Ok(runner.place() as u64)
     }
 
-    /// Returns the thread's state: 0 in Java, 1 in the VM, 2 at a poll, 3 in native code, 4 blocked, 5 serving.
+    /// The thread's state, as a number: in Java 0, in the VM 1, at a poll 2, in native code 3, blocked 4, serving 5.
     pub fn state(&mut self) -> Result<u64, Fault>
         ensures { Acts N.board.places self.old Act.State result self.new }
     {
@@ -191,7 +190,7 @@ impl<N: Name> Party<N> {
         Ok(code_of(runner.state()))
     }
 
-    /// Continues after a poll that stopped. Returns the number of the operation to serve, 0 if the thread continues.
+    /// After a poll that stopped: the number of the operation that is to be served now, 0 where the thread goes on.
     pub fn stop_next(&mut self) -> Result<u64, Fault>
         ensures { Acts N.board.places self.old Act.StopNext result self.new }
     {
@@ -201,7 +200,7 @@ impl<N: Name> Party<N> {
         crossing::stop_next(&self.system, runner)
     }
 
-    /// Ends the serving: enters the job's reply and polls. Returns the poll's number.
+    /// The operation is served: what its job answered is entered, and the thread polls: the number of the poll, 0 to go on.
     pub fn stop_serve(&mut self) -> Result<u64, Fault>
         ensures { Acts N.board.places self.old Act.StopServe result self.new }
     {
@@ -212,7 +211,7 @@ impl<N: Name> Party<N> {
         Ok(number)
     }
 
-    /// Makes the client a thread in the least vacant place. Returns its name.
+    /// The party becomes a thread in the least vacant place: its name.
     pub fn start(&mut self) -> Result<u64, Fault>
         ensures { Acts N.board.places self.old Act.Start result self.new }
     {
@@ -262,8 +261,7 @@ impl<N: Name> Party<N> {
         }
     }
 
-    /// Ends the thread and returns 0. If an operation is pending for it, it polls instead, and the poll's number is
-    /// returned.
+    /// The thread ends: 0. Where something is told to it it polls, and the number of the poll is answered.
     pub fn exit(&mut self) -> Result<u64, Fault>
         ensures { Acts N.board.places self.old Act.Exit result self.new }
     {

@@ -6,4 +6,3 @@ pub mod Codes
 pub mod Served
 pub mod Requests
 pub mod Lanes
-pub mod Widening

@@ -12,4 +12,3 @@ mod rows;
 mod served;
 pub mod subject;
 mod threads;
-mod widening;

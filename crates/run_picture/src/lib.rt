@@ -4,7 +4,6 @@
 #![tactic(auto)]
 
 mod answers;
-mod canvas;
 mod drawing;
 mod fault;
 mod layout;
@@ -18,7 +17,6 @@ mod picture;
 mod reading;
 mod run;
 mod shapes;
-mod style;
 mod words;
 
 pub use fault::Fault;

@@ -1,4 +1,4 @@
-// The numbers that C gets.
+// The numbers that C is told.
 ghost use Rattle.std.specs.Prelude.{◌≡◌, Ok};
 ghost use Rattle.safepoint.specs.Codes.{code_of, fault_code};
 
@@ -196,8 +196,6 @@ fn fault_code(fault: Fault) -> i64
         Fault::Late(_) => -36,
         Fault::Runs => -37,
         Fault::Awaits => -38,
-        Fault::AtSafepoint => -39,
-        Fault::Pending => -43,
         Fault::Start(fault) => start_code(fault),
         Fault::Ask(fault) => ask_code(fault),
         Fault::Code(fault) => install_refusal(fault),
@@ -232,7 +230,7 @@ pub(crate) fn code_of(said: Result<u64, Fault>) -> i64
     }
 }
 
-// The reasons of a thread's most frequent calls come first, each with its number, so that such a call has only its own.
+// The reasons of the calls that a thread makes most come first, each by its number: such a call keeps its own alone.
 #[inline(always)]
 fn fault_code_of_step(fault: Fault) -> i64
     ensures { result ≡ fault_code fault }
@@ -248,7 +246,7 @@ fn fault_code_of_step(fault: Fault) -> i64
     }
 }
 
-/// Returns the code of a frequent call that doesn't poll.
+/// What C gets of the calls that a thread makes most, and that don't poll.
 #[inline(always)]
 pub(crate) fn code_of_step(said: Result<u64, Fault>) -> i64
     ensures { result ≡ code_of said }
@@ -259,7 +257,7 @@ pub(crate) fn code_of_step(said: Result<u64, Fault>) -> i64
     }
 }
 
-// A function of its own, since few polls stop.
+// It stands apart, since few polls stop.
 #[cold]
 #[inline(never)]
 fn code_of_stop(n: u64) -> i64
@@ -268,7 +266,7 @@ fn code_of_stop(n: u64) -> i64
     number_code(n)
 }
 
-/// Returns the code of a call that polls. Mostly the thread continues.
+/// What C gets of the calls that poll: mostly the thread goes on.
 #[inline(always)]
 pub(crate) fn code_of_poll(said: Result<u64, Fault>) -> i64
     ensures { result ≡ code_of said }

@@ -1,4 +1,4 @@
-// The calls of the coordinator. `safepoint.h` lists the refusals.
+// What the coordinator of C calls.
 ghost use Rattle.std.specs.Prelude.{◌≡◌, Some, None};
 ghost use Rattle.safepoint.specs.Told.{Replies};
 
@@ -6,7 +6,7 @@ use crate::codes::code_of;
 use crate::handle::CHandle;
 use parties::acts::Act;
 
-/// Opens the oldest waiting request, and returns its number.
+/// Opens the oldest request: its number.
 #[unsafe(no_mangle)]
 pub extern "C" fn sp_open(coordinator: &mut CHandle) -> i64
     ensures { Replies coordinator.old.handle.board.places result Act.Open
@@ -15,7 +15,7 @@ pub extern "C" fn sp_open(coordinator: &mut CHandle) -> i64
     code_of(coordinator.dispatch(Act::Open))
 }
 
-/// Arms the named thread, and returns the number with which its place is armed, 0 if the name is gone.
+/// Tells a name: the number that its place is armed with, 0 where the name is gone.
 #[unsafe(no_mangle)]
 pub extern "C" fn sp_tell(coordinator: &mut CHandle, name: u64) -> i64
     ensures { Replies coordinator.old.handle.board.places result (Act.Tell name)
@@ -24,7 +24,7 @@ pub extern "C" fn sp_tell(coordinator: &mut CHandle, name: u64) -> i64
     code_of(coordinator.dispatch(Act::Tell(name)))
 }
 
-/// Holds the thread of a place, and returns the oldest operation that it owes.
+/// Holds the thread of a place: the oldest operation that it owes.
 #[unsafe(no_mangle)]
 pub extern "C" fn sp_hold(coordinator: &mut CHandle, place: usize) -> i64
     ensures { Replies coordinator.old.handle.board.places result (Act.Hold place)
@@ -33,7 +33,7 @@ pub extern "C" fn sp_hold(coordinator: &mut CHandle, place: usize) -> i64
     code_of(coordinator.dispatch(Act::Hold(place)))
 }
 
-/// Serves the held thread of a place, and returns the operation's number.
+/// The operation of a held thread is served: its number.
 #[unsafe(no_mangle)]
 pub extern "C" fn sp_serve(coordinator: &mut CHandle, place: usize) -> i64
     ensures { Replies coordinator.old.handle.board.places result (Act.Serve place)
@@ -42,7 +42,7 @@ pub extern "C" fn sp_serve(coordinator: &mut CHandle, place: usize) -> i64
     code_of(coordinator.dispatch(Act::Serve(place)))
 }
 
-/// Releases the held thread of a place.
+/// A held thread is let go.
 #[unsafe(no_mangle)]
 pub extern "C" fn sp_release(coordinator: &mut CHandle, place: usize) -> i64
     ensures { Replies coordinator.old.handle.board.places result (Act.Release place)
@@ -51,7 +51,7 @@ pub extern "C" fn sp_release(coordinator: &mut CHandle, place: usize) -> i64
     code_of(coordinator.dispatch(Act::Release(place)))
 }
 
-/// Operates the open census over the held threads, and returns its number.
+/// The open census is operated over the held threads: its number.
 #[unsafe(no_mangle)]
 pub extern "C" fn sp_operate(coordinator: &mut CHandle) -> i64
     ensures { Replies coordinator.old.handle.board.places result Act.Operate
@@ -60,7 +60,7 @@ pub extern "C" fn sp_operate(coordinator: &mut CHandle) -> i64
     code_of(coordinator.dispatch(Act::Operate))
 }
 
-/// Returns how many frames a code had in the last operated census.
+/// The frames of a code in the census that was operated last.
 #[unsafe(no_mangle)]
 pub extern "C" fn sp_counted(coordinator: &mut CHandle, serial: u64) -> i64
     ensures { Replies coordinator.old.handle.board.places result (Act.Counted serial)
@@ -69,7 +69,7 @@ pub extern "C" fn sp_counted(coordinator: &mut CHandle, serial: u64) -> i64
     code_of(coordinator.dispatch(Act::Counted(serial)))
 }
 
-/// Closes the oldest open request, and returns its number.
+/// Closes the oldest open request: its number.
 #[unsafe(no_mangle)]
 pub extern "C" fn sp_close(coordinator: &mut CHandle) -> i64
     ensures { Replies coordinator.old.handle.board.places result (Act.Close None)
@@ -78,7 +78,7 @@ pub extern "C" fn sp_close(coordinator: &mut CHandle) -> i64
     code_of(coordinator.dispatch(Act::Close(None)))
 }
 
-/// Closes the open request of this number, and returns the number.
+/// Closes the open request of the number.
 #[unsafe(no_mangle)]
 pub extern "C" fn sp_close_of(coordinator: &mut CHandle, number: u64) -> i64
     ensures { Replies coordinator.old.handle.board.places result (Act.Close (Some number))
@@ -87,8 +87,8 @@ pub extern "C" fn sp_close_of(coordinator: &mut CHandle, number: u64) -> i64
     code_of(coordinator.dispatch(Act::Close(Some(number))))
 }
 
-/// Advances the work on the open requests as far as it goes without waiting. Returns the number of the request that it
-/// closed, or a code that says: a held thread is served next, the census is operated, or threads haven't come yet.
+/// Goes on with the work on the open requests as far as it can without waiting: the number of the request that it closed. Where a held thread
+/// is served next, or threads have still to come, the code says so.
 #[unsafe(no_mangle)]
 pub extern "C" fn sp_advance(coordinator: &mut CHandle) -> i64
     ensures { Replies coordinator.old.handle.board.places result Act.Advance
@@ -97,7 +97,7 @@ pub extern "C" fn sp_advance(coordinator: &mut CHandle) -> i64
     code_of(coordinator.dispatch(Act::Advance))
 }
 
-/// Returns the operation of the host's next callback, 0 without one.
+/// The operation for which a held thread is served next, 0 without one.
 #[unsafe(no_mangle)]
 pub extern "C" fn sp_called_operation(coordinator: &mut CHandle) -> i64
     ensures { Replies coordinator.old.handle.board.places result Act.CalledOperation
@@ -106,7 +106,7 @@ pub extern "C" fn sp_called_operation(coordinator: &mut CHandle) -> i64
     code_of(coordinator.dispatch(Act::CalledOperation))
 }
 
-/// Returns the place of the held thread of that callback, 0 without one.
+/// The place of that thread.
 #[unsafe(no_mangle)]
 pub extern "C" fn sp_called_place(coordinator: &mut CHandle) -> i64
     ensures { Replies coordinator.old.handle.board.places result Act.CalledPlace
@@ -115,7 +115,7 @@ pub extern "C" fn sp_called_place(coordinator: &mut CHandle) -> i64
     code_of(coordinator.dispatch(Act::CalledPlace))
 }
 
-/// Returns how many threads the work waits for.
+/// How many threads the work waits for.
 #[unsafe(no_mangle)]
 pub extern "C" fn sp_awaited(coordinator: &mut CHandle) -> i64
     ensures { Replies coordinator.old.handle.board.places result Act.Awaited
@@ -124,7 +124,7 @@ pub extern "C" fn sp_awaited(coordinator: &mut CHandle) -> i64
     code_of(coordinator.dispatch(Act::Awaited))
 }
 
-/// Does the last step of reclaiming a code. Returns how many activations it has, 0 if it is freed.
+/// The last step of reclaiming a code: 0 where it is freed, or how many activations stand.
 #[unsafe(no_mangle)]
 pub extern "C" fn sp_reclaim_end(coordinator: &mut CHandle, serial: u64) -> i64
     ensures { Replies coordinator.old.handle.board.places result (Act.Weigh serial)

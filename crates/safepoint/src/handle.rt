@@ -1,4 +1,4 @@
-// A party as C holds it.
+// What C holds of a party.
 ghost use Rattle.std.specs.Prelude.{◌≡◌, ℕ, OnOk, OnErr, IfOk, Option, Some, None, is_some, true, false};
 ghost use Rattle.board.specs.Boards.{BoardId};
 ghost use Rattle.poll.specs.Rows.{RowId};
@@ -20,7 +20,7 @@ use std::ptr::null_mut;
 use std::sync::Arc;
 use thread_list::Parts;
 
-/// A pointer to a boxed party of any system, or none.
+/// A boxed party as its pointer, whatever its system is, or none.
 #[repr(C)]
 #[derive(Drop)]
 pub struct Handle {
@@ -35,7 +35,7 @@ impl Model for Handle {
     ghost also_owns = { λ h. held_owns h.alloc h.at h.board h.row h.value };
 }
 
-// Another party of the same system, and whether there was memory for it.
+// Another party to the same system, and whether there was memory for it.
 fn fork<N: Name>(
     parts: RawBox<Party<N>, Global>,
 ) -> (RawBox<Party<N>, Global>, (RawBox<Party<N>, Global>, bool))
@@ -67,7 +67,7 @@ fn boxed<N: Name>(alloc: Global, party: Party<N>) -> (RawBox<Party<N>, Global>, 
     }
 }
 
-// The coordinator of a new system of these parts, and whether there was memory for it.
+// The coordinator of a new system over these parts, and whether there was memory for it.
 fn make<N: Name>(alloc: Global, parts: Parts) -> (RawBox<Party<N>, Global>, bool)
     requires { (parts.board ≡ N.board) × (parts.row ≡ N.poll_row) }
     ensures { Begins N.board N.poll_row result.0.value result.1 }
@@ -99,6 +99,7 @@ fn begun<N: Name>(
     }
 }
 
+// The party goes.
 fn free<N: Name>(parts: RawBox<Party<N>, Global>) -> bool
     requires { is_some parts.value ≡ true }
     ensures { result ≡ true }
@@ -108,7 +109,7 @@ fn free<N: Name>(parts: RawBox<Party<N>, Global>) -> bool
 }
 
 impl Handle {
-    // Does an act of the party, in place.
+    // Does an act of the party, where it lies.
     #[inline(always)]
     fn dispatch(&mut self, act: Act) -> Result<u64, Fault>
         requires { is_some self.old.value ≡ true }
@@ -180,7 +181,7 @@ impl Handle {
     }
 }
 
-/// The memory of a party in C. All zeros, it has no party.
+/// The place of a party in C's memory. All zeros, it has none.
 #[repr(C)]
 #[derive(Drop)]
 pub struct CHandle {
@@ -224,7 +225,7 @@ impl CHandle {
         *self = CHandle { made, handle };
     }
 
-    /// Does an act of the party. Refused with `NotThis` without one.
+    /// Does an act of the party that is here.
     #[inline(always)]
     pub(crate) fn dispatch(&mut self, act: Act) -> Result<u64, Fault>
         ensures said { Answers self.old.handle.board.places self.old.handle.value act result
@@ -238,7 +239,7 @@ impl CHandle {
         self.handle.dispatch(act)
     }
 
-    /// Puts another party of the same system into `other`.
+    /// Puts another party to the same system into the other place.
     pub(crate) fn fork(&mut self, alloc: Global, other: &mut CHandle) -> Result<u64, Fault>
         requires { is_some other.old.handle.value ≡ false }
 

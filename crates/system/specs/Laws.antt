@@ -1,4 +1,4 @@
--- Laws of every world, after any events in any order.
+-- What holds of every world that events lead to, whatever events they are and in whatever order.
 use Rattle.std.specs.Prelude.{◌≡◌, ℕ, Bool, true, false, List, Some, slice_get}
 use Rattle.method_table.specs.declared.Code.{Code}
 use Rattle.method_table.specs.declared.CodeState.{CodeState}
@@ -15,7 +15,7 @@ use Rattle.system.specs.Runs.{world_after}
 abbrev pub HeldIsSafe : Thread → Type 0
 HeldIsSafe t = t.held ≡ true → is_safe t.state ≡ true
 
--- Every held thread of the world is in a safe state.
+-- So is each thread of the world.
 abbrev pub AllHeldAreSafe : World → Type 0
 AllHeldAreSafe w = (place : ℕ) (t : Thread) → thread_at w place ≡ Some t → HeldIsSafe t
 
@@ -23,17 +23,17 @@ AllHeldAreSafe w = (place : ℕ) (t : Thread) → thread_at w place ≡ Some t �
 abbrev pub HeldThreadsAreSafe : Type 0
 HeldThreadsAreSafe = (places slots methods : ℕ) (events : List Event) → AllHeldAreSafe (world_after (start_world places slots methods) events)
 
--- Code of which no frame may stand: a zombie, or freed code. (nmethod)
+-- A zombie, or freed: no activation may stand. (nmethod)
 abbrev pub is_retired : CodeState → Bool
 is_retired Zombie = true
 is_retired Freed = true
 is_retired state = false
 
--- No frame of a zombie or freed code stands on a stack.
+-- No zombie or freed code stands on any stack.
 abbrev pub NoRetiredCodeStands : World → Type 0
 NoRetiredCodeStands w = (position place : ℕ) (code : Code) (t : Thread) → slice_get w.codes position ≡ Some code → is_retired code.state ≡ true
     → thread_at w place ≡ Some t → act (id_of code) t.stack ≡ 0
 
--- After any events, no frame of such code stands on a stack.
+-- So it is after any events.
 abbrev pub RetiredCodesStandNowhere : Type 0
 RetiredCodesStandNowhere = (places slots methods : ℕ) (events : List Event) → NoRetiredCodeStands (world_after (start_world places slots methods) events)

@@ -1,4 +1,4 @@
-// Answers to events, and refusals.
+// Answers to events, and why an event is refused.
 ghost use Rattle.std.specs.Prelude.{◌≡◌, IfOk};
 
 use frames::Frame;
@@ -48,14 +48,14 @@ pub enum Refusal {
     NotAllHeld,
 }
 
-/// A code's serial and its number of frames.
+/// A code's serial, and how many frames it has.
 #[derive(Clone, Copy, Debug, PartialEq, Eq, Drop)]
 pub struct CodeCount {
     pub serial: u64,
     pub count: u32,
 }
 
-/// The result of a census, in rising serial.
+/// What a census counted, in rising serial.
 #[derive(Debug, Drop)]
 pub struct CountList {
     counts: Box<Vec<CodeCount>>,
@@ -85,8 +85,7 @@ impl CountList {
     }
 }
 
-/// The answer to an event. A `usize` is a place; every other number is a name, serial, operation, count or difference
-/// of counts.
+/// The answer to an event. Places are those of threads, all other numbers are names, serials, operations or counts.
 #[derive(Debug, Drop)]
 pub enum Answer {
     Done,
@@ -117,7 +116,7 @@ pub enum Answer {
     State(CodeState),
     Refused(Refusal),
 }
-/// The frames of a stack, the bottom first.
+/// Frames, bottom first.
 #[derive(Debug, Drop)]
 pub struct FrameList {
     frames: Box<Vec<Frame>>,

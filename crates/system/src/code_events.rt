@@ -1,4 +1,4 @@
-// The events that install and reclaim codes.
+// The events of the codes, and of their reclaiming.
 ghost use Rattle.std.specs.Prelude.{◌≡◌, ◌<◌, ◌≤◌, length, slice_set, IfOk, OnErr, IfSome, IfNone};
 ghost use Rattle.method_table.specs.Codes.{unfreed};
 ghost use Rattle.system.specs.declared.events.Event.TheVariants as events;
@@ -15,7 +15,7 @@ use method_table::table::{FreeFault, InstallFault, InvalidateFault, RetireFault}
 use method_table::{Code, CodeState};
 use std::alloc::AllocError;
 
-// Records the invalidation of a code that an install replaced.
+// What is written down of a code that a new one replaces: it is as after an invalidation of its own.
 fn note_replaced(records: &mut Vec<Record>, replaced: Option<CodeId>, moment: u64)
     requires { IfSome replaced (λ id. id.slot < length records.old.items) }
     ensures some { IfSome replaced
@@ -28,12 +28,8 @@ fn note_replaced(records: &mut Vec<Record>, replaced: Option<CodeId>, moment: u6
 }
 
 impl Core {
-    /// Installs a new code for the method in the least free slot. The code that it replaces becomes not entrant, as by
-    /// an Invalidate at this moment.
-    /// Refusals in this order: `NoSuchMethod`, `TableFull`, `SerialsSpent`.
-    ///
-    /// # Errors
-    /// Memory is refused, and the event would be accepted.
+    /// A new code in use for the method, in the least free slot. The code that was in use for it isn't entered from now on, as after
+    /// an invalidation at this moment.
     pub fn install(&mut self, method: u64) -> Result<Answer, AllocError>
         requires world { OfWorld self.old }
         requires few { length self.old.places.items ≤ 64 }
@@ -58,7 +54,7 @@ impl Core {
         }
     }
 
-    /// Makes a code in use not entrant, and records the moment. Refusals in this order: `Unknown`, `NotInUse`.
+    /// The code isn't entered from now on; its invalidation has this moment.
     pub fn invalidate(&mut self, serial: u64) -> Answer
         requires few { length self.old.places.items ≤ 64 }
         requires recorded { length self.old.records.items ≡ self.old.table.slots }
@@ -77,7 +73,7 @@ impl Core {
         }
     }
 
-    /// Begins the next moment. Refused with `Spent` after the last moment.
+    /// The next moment.
     pub fn round(&mut self) -> Answer
         ensures { Does events.Round self.old result self.new }
     {
@@ -88,10 +84,8 @@ impl Core {
         Answer::Done
     }
 
-    /// Answers whether every frame of the code at the place is published, and records a `Clear`. That holds if the
-    /// place is vacant, its thread ended no publication yet, or its last ended publication began in a later moment than
-    /// the invalidation.
-    /// Refusals in this order: `Unknown`, `NotNotEntrant`, `NoSuchPlace`.
+    /// Whether no frame of the code can stand unpublished at the place: it is vacant, its thread
+    /// published nothing yet, or published its stack after the invalidation.
     pub fn look(&mut self, serial: u64, place: usize) -> Answer
         requires few { length self.old.places.items ≤ 64 }
         requires recorded { length self.old.records.items ≡ self.old.table.slots }
@@ -112,8 +106,8 @@ impl Core {
         Answer::Clear
     }
 
-    /// Answers the least place without a `Clear` look, or else the code's count if it isn't 0. Otherwise the code
-    /// becomes a zombie. Refusals in this order: `Unknown`, `NotNotEntrant`.
+    /// The least place that wasn't looked at; then the code's count; and a code that counts nothing
+    /// becomes a zombie.
     pub fn weigh(&mut self, serial: u64) -> Answer
         requires few { length self.old.places.items ≤ 64 }
         requires recorded { length self.old.records.items ≡ self.old.table.slots }
@@ -137,7 +131,7 @@ impl Core {
         }
     }
 
-    /// Frees a zombie and its slot. Refusals in this order: `Unknown`, `NotZombie`.
+    /// The slot of a zombie gets free.
     pub fn free(&mut self, serial: u64) -> Answer
         ensures { Does (events.Free serial) self.old result self.new }
     {
@@ -148,7 +142,7 @@ impl Core {
         }
     }
 
-    /// Answers how many frames of the code are published. Refused with `Unknown` for a freed code too.
+    /// How many frames of the code the threads published.
     pub fn count(&self, serial: u64) -> Answer
         ensures { Does (events.Count serial) self.now result self.now }
     {
@@ -158,7 +152,7 @@ impl Core {
         }
     }
 
-    /// Answers the code's state, also of a freed code. Refused with `Unknown` if the serial was never given out.
+    /// The code's state, freed codes included.
     pub fn code_state(&self, serial: u64) -> Answer
         ensures { Does (events.CodeState serial) self.now result self.now }
     {
@@ -168,7 +162,7 @@ impl Core {
         }
     }
 
-    /// Answers the method's code in use. Refused with `NoSuchMethod`.
+    /// The code in use for the method.
     pub fn resolve(&self, method: u64) -> Answer
         ensures { Does (events.Resolve method) self.now result self.now }
     {
@@ -181,7 +175,7 @@ impl Core {
         }
     }
 
-    // The code of the serial if it is not entrant.
+    // The code of the serial, where it is not entrant.
     fn not_entrant(&self, serial: u64) -> Result<Code, Refusal>
         ensures value { result ≡ not_entrant (unfreed self.now.table.codes serial) }
         ensures slot { IfOk result (λ code. code.slot < self.now.table.slots) }
@@ -196,7 +190,7 @@ impl Core {
     }
 }
 
-// The place has no published stack, or the last ended publication began in a later moment.
+// Nothing is published at the place, or what is published is later than the moment.
 fn is_clear(left: u64, place: &Option<Thread>) -> bool
     ensures { result ≡ is_clear left place.now }
 {

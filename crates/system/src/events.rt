@@ -6,7 +6,7 @@ ghost use Rattle.system.specs.Memory.{copies_freely};
 use operations::Request;
 use std::alloc::{AllocError, Global};
 
-/// An act of the thread at a place, or of the coordinator on that thread.
+/// What happens at one place.
 #[derive(Clone, Copy, Debug, PartialEq, Eq, Drop)]
 pub enum Act {
     Begin,
@@ -30,7 +30,7 @@ pub enum Act {
     Stack,
 }
 
-/// An event: an act at a place, or an event of the whole system.
+/// An event: an act at a place, or one of the whole.
 #[derive(Debug, Drop)]
 pub enum Event {
     At(usize, Act),
@@ -45,7 +45,7 @@ pub enum Event {
     Open,
     Tell(u64),
     Operate,
-    /// Closes the open operation of this number, or the oldest one.
+    /// Of the open operation of this number; without one, of the oldest.
     Close(Option<u64>),
     Count(u64),
     CodeState(u64),
@@ -53,7 +53,7 @@ pub enum Event {
 }
 
 impl Event {
-    /// Copies the event. Only the names of a handshake need memory.
+    /// A copy. Only the names of a handshake take memory.
     pub fn copied(&self, alloc: Global) -> Result<Event, AllocError>
         ensures same { IfOk result (λ event. event ≡ self.now) }
         ensures succeeds { copies_freely self.now ≡ true → IsOk result }

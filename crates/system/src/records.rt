@@ -1,10 +1,10 @@
-// Records of codes that aren't entrant, by slot.
+// What the system writes down of a code that isn't entrant, by its slot.
 ghost use Rattle.std.specs.Prelude.{◌≡◌, ◌<◌, ◌≤◌, ℕ, true, false, IfOk, IfSome, IfNone, slice_set, slice_index_or, replicate, length};
 ghost use Rattle.system.specs.Kept.Records.{new_record, with_look};
 
 use std::alloc::{AllocError, Global};
 
-/// The moment of a code's invalidation, and the places with a `Clear` look.
+/// The moment of the invalidation, and the places that were looked at and found clear.
 #[derive(Clone, Copy, Debug, PartialEq, Eq, Drop)]
 pub struct Record {
     pub left: u64,
@@ -12,7 +12,7 @@ pub struct Record {
 }
 
 impl Record {
-    /// Makes a record of an invalidation at this moment, without looks.
+    /// Invalidated at this moment, no place looked at.
     pub fn of(left: u64) -> Record
         ensures { result ≡ new_record left }
     {
@@ -22,7 +22,7 @@ impl Record {
         }
     }
 
-    /// Records a `Clear` look at the place.
+    /// The place was looked at and found clear.
     pub fn look(&mut self, place: usize)
         requires { place < 64 }
         ensures { self.new ≡ with_look self.old place }
@@ -30,7 +30,7 @@ impl Record {
         self.looked[place] = true;
     }
 
-    /// Returns the least of the first `places` places without a `Clear` look.
+    /// The least of so many places that wasn't looked at.
     pub fn unlooked(&self, places: usize) -> Option<usize>
         requires { places ≤ 64 }
         ensures some { IfSome result (λ place. (place < places)
@@ -48,7 +48,7 @@ impl Record {
     }
 }
 
-/// Makes blank records for this many slots.
+/// Blank records for so many slots.
 pub fn blank_records(alloc: Global, slots: usize) -> Result<Vec<Record>, AllocError>
     ensures { IfOk result (λ records. records.items ≡ replicate slots (new_record 0)) }
 {

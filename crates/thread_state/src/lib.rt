@@ -1,5 +1,5 @@
 //! The states of a thread, the moves between them, and the rule of the poll words.
-//! `system`, `poll`, `desk` and all crates above them use these rules.
+//! The core and both kinds of running threads go by its rules: `system`, `poll`, `desk` and all above them.
 //! Read `src/moves.rt` first, then `specs/States.antt`.
 #![tactic(auto)]
 
@@ -9,55 +9,55 @@ mod text;
 
 pub use moves::{cross, is_in_java, is_in_vm, is_safe, is_serving, may_cross, may_publish, step};
 
-/// The state to which a thread returns from native code or from a stop.
+/// Where a thread goes back to.
 #[derive(Clone, Copy, Debug, PartialEq, Eq, Drop)]
 pub enum Back {
     Java,
     Vm,
 }
 
-/// A thread's state, or the state of a place without a thread.
+/// A thread's state, or that of a place without a thread.
 #[derive(Clone, Copy, Debug, PartialEq, Eq, Drop)]
 pub enum State {
     /// The place has no thread.
     Vacant,
-    /// The thread is started, and hasn't entered Java yet.
+    /// Started, and not yet in Java.
     New,
     InJava,
     InVm,
-    /// In native code. The thread enters neither Java nor the VM before it wakes and polls.
+    /// In native code. It keeps out of Java and of the VM until it wakes and polls.
     InNative(Back),
-    /// Waiting in the VM.
+    /// Waits in the VM.
     Blocked,
-    /// Between `New` and Java.
+    /// On the way from `New` into Java.
     NewTrans,
-    /// Between native code and the state of return.
+    /// On the way back from native code.
     NativeTrans(Back),
-    /// Between `Blocked` and the VM.
+    /// On the way back into the VM.
     BlockedTrans,
     /// Stopped at a poll.
     AtPoll(Back),
-    /// Stopped at a poll, and running its own operations.
+    /// Stopped at a poll, and runs its own operations.
     Serving(Back),
 }
 
-/// A change of state without a poll.
+/// What a thread does without a poll.
 #[derive(Clone, Copy, Debug, PartialEq, Eq, Drop)]
 pub enum Move {
-    /// A thread starts in a vacant place.
+    /// A thread is started in a vacant place.
     Start,
-    /// A new thread, or a thread in native code or blocked, enters the transition state, from which it polls.
+    /// A thread leaves a state in which it waited or was out of reach.
     Wake,
     ToVm,
     ToNative,
     Block,
-    /// A thread that is stopped at a poll begins to serve.
+    /// A thread that stopped at a poll takes its operations in hand.
     Take,
-    /// The thread ends and its place becomes vacant.
+    /// The thread ends, and its place is vacant.
     Exit,
 }
 
-/// The state in which the move or poll is illegal.
+/// A state in which what was asked for isn't lawful.
 #[derive(Clone, Copy, Debug, PartialEq, Eq, Drop)]
 pub struct Illegal {
     pub state: State,

@@ -1,14 +1,11 @@
-//! The state after each move and poll, and what each state permits.
+//! Where moves and polls lead from each state, and what a thread may do in it.
 ghost use Rattle.std.specs.Prelude.{◌≡◌, IfErr};
 ghost use Rattle.std.specs.Result.{result_ok};
 ghost use Rattle.thread_state.specs.States as table;
 
 use crate::{Back, Illegal, Move, State};
 
-/// Returns the state after a move.
-///
-/// # Errors
-/// `Illegal` with the given state if the table has no such move.
+/// Where a move leads. A pair that the table doesn't have is illegal, and the error names the state.
 pub fn step(state: State, movement: Move) -> Result<State, Illegal>
     ensures accepted { result_ok result ≡ table.step state movement }
     ensures refused { IfErr result (λ e. e.state ≡ state) }
@@ -29,10 +26,8 @@ pub fn step(state: State, movement: Move) -> Result<State, Illegal>
     Ok(to)
 }
 
-/// Returns the state after a poll: the next state if `go`, otherwise `AtPoll`.
-///
-/// # Errors
-/// `Illegal` with the given state if no thread polls in it.
+/// Where a poll leads: on, where `go` is true, and otherwise to a stop. A state that doesn't poll is illegal, and the error
+/// names it.
 pub fn cross(state: State, go: bool) -> Result<State, Illegal>
     ensures accepted { result_ok result ≡ table.cross state go }
     ensures refused { IfErr result (λ e. e.state ≡ state) }
@@ -46,6 +41,7 @@ pub fn cross(state: State, go: bool) -> Result<State, Illegal>
     Ok(if go { onward } else { State::AtPoll(back) })
 }
 
+// The state that a way back names.
 fn state_of(back: Back) -> State
     ensures { result ≡ table.state_of back }
 {
@@ -55,7 +51,7 @@ fn state_of(back: Back) -> State
     }
 }
 
-/// Returns whether the thread's stack can't change in this state, before the thread wakes or begins to serve.
+/// Whether a thread in this state does nothing to its stack until it wakes or takes its operations.
 pub fn is_safe(state: State) -> bool
     ensures { result ≡ table.is_safe state }
 {
@@ -65,7 +61,7 @@ pub fn is_safe(state: State) -> bool
     )
 }
 
-/// Returns whether a thread may begin a publication of its stack, if nobody holds the thread.
+/// Whether a thread that nobody holds may begin a publication of its stack.
 pub fn may_publish(state: State) -> bool
     ensures { result ≡ table.may_publish state }
 {
@@ -75,7 +71,7 @@ pub fn may_publish(state: State) -> bool
     )
 }
 
-/// Returns whether a thread leaves this state by a poll and nothing else.
+/// Whether a thread polls to leave this state, with nothing else done at that poll.
 pub fn may_cross(state: State) -> bool
     ensures { result ≡ table.may_cross state }
 {
@@ -85,21 +81,21 @@ pub fn may_cross(state: State) -> bool
     )
 }
 
-/// Returns whether the thread runs Java code.
+/// Whether the thread runs Java code.
 pub fn is_in_java(state: State) -> bool
     ensures { result ≡ table.is_in_java state }
 {
     matches!(state, State::InJava)
 }
 
-/// Returns whether the thread runs in the VM.
+/// Whether the thread runs in the VM.
 pub fn is_in_vm(state: State) -> bool
     ensures { result ≡ table.is_in_vm state }
 {
     matches!(state, State::InVm)
 }
 
-/// Returns whether the thread is stopped at a poll and serves itself.
+/// Whether the thread has stopped at a poll and serves itself.
 pub fn is_serving(state: State) -> bool
     ensures { result ≡ table.is_serving state }
 {

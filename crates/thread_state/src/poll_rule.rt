@@ -1,46 +1,46 @@
-//! The views of a poll row's seats. Only contracts use these types: code makes no value of them.
+//! What the seats of a poll row know. No value of these types is made: they are for contracts alone.
 ghost use Rattle.thread_state.specs.PollRule.{PlaceState, IsPlaceKept, IsFound, StepsKeep};
 
 use std::collections::LinkedList;
 
-/// The last step of a seat, with its arguments and the loaded value.
+/// The last step of a seat, with the value that it met.
 pub enum Deed {
     Nothing,
-    /// The loaded value.
+    /// What was found.
     Load(u64),
-    /// The place and the stored number.
+    /// The place, and what was stored.
     Store(u64, u64),
-    /// The expected number and the loaded value.
+    /// The number that was expected, and the one that was found.
     Exchange(u64, u64),
 }
 
-/// The armer's view.
+/// What the armer knows.
 pub struct Arming {
-    /// The number last armed at each place, 0 at first.
+    /// The number that each place was last armed with, 0 at first.
     pub armed: LinkedList<u64>,
     /// How many pollers were split off.
     pub split: u64,
-    /// How many steps the armer made.
+    /// How many steps the armer has made.
     pub steps: u64,
     pub last: Deed,
 }
 
-/// The view of a place's poller.
+/// What the poller of a place knows.
 pub struct Watching {
     pub place: u64,
-    /// The number that the poller last cleared, 0 at first.
+    /// The number that it cleared last, 0 at first.
     pub cleared: u64,
-    /// How many steps the poller made.
+    /// How many steps the poller has made.
     pub steps: u64,
     pub last: Deed,
 }
 
-/// A law: each step preserves the rule of the poll words.
+/// The law that each kind of step keeps the rule of the poll words.
 pub fn steps_keep_the_rule()
     ensures { StepsKeep }
 {}
 
-/// A law: a word that meets the rule is 0 if the number last armed is cleared, and otherwise that number.
+/// The law that a word which meets the rule is 0 where the number armed last is cleared, and otherwise that number.
 pub fn words_tell_what_is_armed()
     ensures { (place : PlaceState) → IsPlaceKept place → IsFound place }
 {}

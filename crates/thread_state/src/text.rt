@@ -1,4 +1,4 @@
-//! The text of states.
+//! How states are written.
 ghost use Rattle.std.specs.Prelude.{Some, ◌++◌, codes};
 ghost use Rattle.thread_state.specs.StateText.{back_text, state_text};
 

@@ -89,15 +89,14 @@ impl<N: Name> Summary<N> {
     }
 }
 
-impl Ending {
-    /// The word for this ending in the line of its thread.
-    pub fn word(self) -> &'static str
-        ensures { result.now ≡ ending_text self }
-    {
+impl fmt::Display for Ending {
+    ghost output = { λ ending. Some (ending_text ending) };
+
+    fn fmt<W: fmt::Write>(&self, f: &mut fmt::Formatter<W>) -> fmt::Result {
         match self {
-            Ending::Finished => "finished",
-            Ending::Overflow => "overflow",
-            Ending::OutOfFuel => "fuel",
+            Ending::Finished => write!(f, "finished"),
+            Ending::Overflow => write!(f, "overflow"),
+            Ending::OutOfFuel => write!(f, "fuel"),
         }
     }
 }
@@ -106,8 +105,7 @@ impl fmt::Display for Line {
     ghost output = { λ line. Some (line_text line) };
 
     fn fmt<W: fmt::Write>(&self, f: &mut fmt::Formatter<W>) -> fmt::Result {
-        let ending = self.ending.word();
-        write!(f, "thread {} {ending} {}\n", self.name, self.made)
+        write!(f, "thread {} {} {}\n", self.name, self.ending, self.made)
     }
 }
 

@@ -1,4 +1,4 @@
-// The trait of jobs.
+// What carries jobs without naming their box.
 ghost use Rattle.std.specs.Prelude.{◌≡◌, ◌↔◌, ℕ};
 ghost use Rattle.frames.specs.ImageView.{ImageView, IsSettled};
 ghost use Rattle.operations.specs.declared.Ask.{Ask};
@@ -8,19 +8,19 @@ use super::{Call, Done, Job};
 use crate::Ask;
 use frames::image::Image;
 
-/// A job, which runs once on the image of its target's settled stack. `Job` is one. The layers that carry jobs are
-/// generic in this trait, so they don't name the box.
+/// What can be run for a target, once, on the image of a settled stack. A `Job` is one; the layers that carry jobs
+/// are generic in it.
 pub trait HandshakeOp: Drop {
     /// The number of its operation.
     ghost number: { Self → ℕ };
 
-    /// The name of its target.
+    /// The name of the thread that it is for.
     ghost whom: { Self → ℕ };
 
-    /// Its ask.
+    /// What it asks.
     ghost asks: { Self → Ask };
 
-    /// Its callback may return this reply for this image.
+    /// Its callback may answer this on this image.
     ghost may_answer: { Self → ImageView → ℕ → Type 0 };
 
     fn op_of(&self) -> u64
@@ -32,14 +32,14 @@ pub trait HandshakeOp: Drop {
     fn ask_of(&self) -> Ask
         ensures { result ≡ asks self.now };
 
-    /// Returns the job with another number.
+    /// The errand with another number.
     fn numbered(self, op: u64) -> Self
         ensures number { number result ≡ op }
         ensures same { (whom result ≡ whom self) × (asks result ≡ asks self) }
         ensures callback { (image : ImageView) (reply : ℕ)
             → may_answer result image reply ↔ may_answer self image reply };
 
-    /// Runs the job on the image and returns the reply with the job's number, target and ask.
+    /// Calls the callback on the image: the reply is what it answered there.
     fn run_on(self, image: &Image) -> Done
         requires { IsSettled image.now }
         ensures same { (result.op ≡ number self) × (result.target ≡ whom self)
@@ -73,6 +73,7 @@ impl HandshakeOp for Job {
         Job::numbered(self, op)
     }
 
+    /// Calls the callback on the image: the reply is what it answered there.
     fn run_on(self, image: &Image) -> Done {
         self.run(image)
     }

@@ -1,4 +1,4 @@
--- All slots before the search's position are taken.
+-- No slot that the search went past is free.
 use Rattle.std.proofs.Common.{◌≡◌, ℕ, ◌<◌, true}
 use Rattle.std.specs.Prelude.{slice_get}
 use Rattle.method_table.specs.Kept.{holds}

@@ -7,7 +7,7 @@ use Rattle.desk.specs.Names.{NamesSeen}
 use Rattle.desk.proofs.Distinct.{one_off}
 use Rattle.desk.proofs.names.Awaited.take_off.Goals as goal
 
--- If the name is the first, the others follow it.
+-- Where the name is the first, those behind it are the others.
 pub returns-in-Some : goal.returns-in-Some
 returns-in-Some c =
     let behind : List ℕ = drop c.self.inside.gone c.self.inside.later.items in

@@ -1,4 +1,4 @@
--- `none` is the generic function at the name of a board and a row.
+-- `none`, as the generic one under the name that a board and a row pick.
 use Rattle.std.proofs.Common.{List, [], ◌∷◌, ◌++◌, refl, sym, subst}
 use Rattle.std.specs.Prelude.{None}
 use seplogic.Ra.Ura.{Ura}
