@@ -23,7 +23,7 @@ PLACES, SYSTEMS, LISTED = 64, 16, struct.Struct("<3Q")
 # Of crates/parties: Party, with a RunningThread or with its Drive; SharedSystem. Of crates/desk: Desk, Opened.
 FORM = {
     "party": {"system": 0x0, "role": 0x8, "name": 0x10, "place": 0x18, "state": 0x28,
-              "awaited": 0x148, "calls": 0x150, "called_operation": 0x158, "called_place": 0x160},
+              "awaited": 0x150, "calls": 0x158, "called_kind": 0x160, "called_operation": 0x168, "called_place": 0x170},
     "system": {"polls": 0x58, "places": 0xa0, "desk": 0xb8},
     "desk": {"opened": 0x0, "open": 0x8, "live": 0x18, "threads": 0x20, "waiting": 0x98},
     "request": {"number": 0x0, "left": 0x8, "kind": 0x40, "targets": 0x50, "operated": 0x78},
@@ -147,8 +147,13 @@ class Party:
         return self.record.byte("state")
 
     def called(self):
-        """For which operation and place the coordinator was told to run the callback; nothing where it wasn't."""
-        return (self.record.called_operation, self.record.called_place) if self.record.byte("calls") else None
+        """What the coordinator was told to run; nothing where it wasn't."""
+        if not self.record.byte("calls"):
+            return None
+        operation = self.record.called_operation
+        if self.record.byte("called_kind"):
+            return f"the coordinator's VM operation {operation}"
+        return f"the coordinator's callback for place {self.record.called_place}, operation {operation},"
 
 
 def listed():
@@ -245,8 +250,7 @@ class System:
     def callbacks(self):
         for it in self.coordinators:
             if it.called():
-                operation, place = it.called()
-                yield f"  awaited: the coordinator's callback for place {place}, operation {operation}, hasn't returned"
+                yield f"  awaited: {it.called()} hasn't returned"
                 yield from self.functions(it)
 
     def functions(self, party):

@@ -592,7 +592,9 @@ static void of_coordinator(uint64_t what) {
 /* --- what is seen --- */
 
 static void compare_replies(int64_t operation, int64_t name) {
-    int64_t wanted = SP_NOT_ANSWERED;
+    int64_t pending = opens ? open[0].number : waits ? waiting[0].number : 0;
+    int64_t wanted = operation < (pending ? pending : asked + 1) ? SP_NOT_ANSWERED : SP_PENDING;
+    IS(sp_pending(&coordinator), pending);
     for (int i = 0; i < reply_count; i++)
         if (replies[i].operation == operation && replies[i].name == name && operation > forgotten) wanted = replies[i].reply;
     IS(sp_reply(&coordinator, (uint64_t)operation, (uint64_t)name), wanted);

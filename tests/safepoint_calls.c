@@ -55,6 +55,17 @@ static int64_t advanced(struct sp_party *coordinator) {
         IS(sp_awaited(coordinator), count);                                                                                                \
     } while (0)
 
+/* All live threads are held for the VM operation of this census, and it is closed. */
+#define OPERATES(coordinator, operation)                                                                                                   \
+    do {                                                                                                                                   \
+        ADVANCES(coordinator, SP_AT_SAFEPOINT);                                                                                            \
+        IS(sp_called_operation(coordinator), operation);                                                                                   \
+        IS(sp_called_place(coordinator), 0);                                                                                               \
+        IS(sp_pending(coordinator), operation);                                                                                            \
+        ADVANCES(coordinator, operation);                                                                                                  \
+        IS(sp_called_operation(coordinator), 0);                                                                                           \
+    } while (0)
+
 static struct sp_party none, c, a, b, d; /* no party, the coordinator, three others */
 
 static void no_party_does_nothing(void) {
@@ -208,7 +219,8 @@ static void requests_are_refused(void) {
 static void a_thread_serves_itself(void) {
     IS(sp_target(&d, 1), 0);
     IS(sp_submit(&d, SP_DEPTH, 0), 1);
-    IS(sp_reply(&d, 1, 1), SP_NOT_ANSWERED);
+    IS(sp_pending(&d), 1);
+    IS(sp_reply(&d, 1, 1), SP_PENDING);
     IS(sp_open_kind(&c), SP_NONE);
     IS(sp_open(&c), 1);
     IS(sp_open_kind(&c), SP_HANDSHAKE);
@@ -454,7 +466,7 @@ static void a_held_thread_is_called(void) {
     CALLS(&k, 1, 0);
     no_lock_is_taken(SP_HANDSHAKE);
     IS(sp_from_native(&s), SP_AGAIN);
-    IS(sp_reply(&k, 1, 1), SP_NOT_ANSWERED);
+    IS(sp_reply(&k, 1, 1), SP_PENDING);
     ADVANCES(&k, 1);
     no_lock_is_taken(SP_NONE);
     IS(sp_called_operation(&k), 0);
@@ -504,6 +516,9 @@ static void a_census_is_advanced(void) {
     IS(sp_from_native(&t), SP_AGAIN);
     IS(sp_back_edge(&s), 1);
     IS(sp_stop_next(&s), SP_AGAIN);
+    ADVANCES(&k, SP_AT_SAFEPOINT);
+    IS(sp_from_native(&t), SP_AGAIN);
+    IS(sp_stop_next(&s), SP_AGAIN);
     ADVANCES(&k, 1);
     IS(sp_counted(&k, 1), 1);
     IS(sp_stop_next(&s), 0);
@@ -549,7 +564,7 @@ static void a_target_exits(void) {
     ADVANCES(&k, 3);
     IS(sp_reply(&k, 3, 2), 0);
     IS(sp_census(&k), 4);
-    ADVANCES(&k, 4);
+    OPERATES(&k, 4);
     end();
 }
 
@@ -595,7 +610,7 @@ static void steps_are_mixed_into_a_census(void) {
     IS(sp_open(&k), 1);
     IS(sp_tell(&k, 1), 1);
     IS(sp_hold(&k, 0), 1);
-    ADVANCES(&k, 1);
+    OPERATES(&k, 1);
     IS(sp_release(&k, 0), SP_NOT_HELD);
     IS(sp_census(&k), 2);
     IS(sp_open(&k), 2);
@@ -654,7 +669,7 @@ static void names_never_were(void) {
         IS(sp_reply(&k, (uint64_t)i + 1, names[i]), SP_NOT_ANSWERED);
         IS(sp_live_after(&k, names[i]), names[i] ? 0 : 1);
     }
-    IS(sp_reply(&k, 99, 1), SP_NOT_ANSWERED);
+    IS(sp_reply(&k, 99, 1), SP_PENDING);
     IS(sp_exit(&t), 0);
     sp_free(&t);
     IS(sp_fork(&k, &t), 0);

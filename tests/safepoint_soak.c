@@ -33,7 +33,7 @@ static atomic_int still; /* threads that haven't exited for good */
 static atomic_int frames_of[CODES]; /* a thread counts a frame behind the call, and uncounts it before the return */
 static atomic_bool is_freed[CODES];
 static atomic_uint_least64_t served_by[OPERATIONS]; /* by place; a place has one target of an operation at most, since its thread exits served */
-static atomic_long own, held, handshakes, censuses, advanced, freed, starts;
+static atomic_long own, held, vm_operations, handshakes, censuses, advanced, freed, starts;
 
 static void fail(const char *what, int64_t answer) {
     printf("FAILED: %s: %lld, %s\n", what, (long long)answer, sp_text(answer));
@@ -286,6 +286,7 @@ static void advance(void) {
         int64_t answer = sp_advance(&coordinator);
         sp_ring();
         if (answer == SP_RUN) serve_next();
+        else if (answer == SP_AT_SAFEPOINT) atomic_fetch_add(&vm_operations, 1);
         else if (answer == SP_AWAITS && step_in_between()) break;
         else if (answer == SP_AWAITS || answer == SP_AGAIN) sp_again(SP_AGAIN, &pause);
         else if (answer == SP_QUEUE_EMPTY || must("sp_advance", answer)) break;
@@ -343,7 +344,7 @@ int main(int argc, char **argv) {
     while (atomic_load(&still)) work();
     for (int i = 0; i < count; i++) pthread_join(all[i].id, NULL), sp_free(&all[i].client);
     sp_free(&coordinator);
-    printf("%d threads, %ld starts, %ld handshakes, %ld censuses by steps, %ld times advanced, %ld callbacks by the thread and %ld for a held one, %ld codes freed\n",
-           count, atomic_load(&starts), atomic_load(&handshakes), atomic_load(&censuses), atomic_load(&advanced), atomic_load(&own), atomic_load(&held), atomic_load(&freed));
+    printf("%d threads, %ld starts, %ld handshakes, %ld censuses by steps, %ld times advanced, %ld VM operations, %ld callbacks by the thread and %ld for a held one, %ld codes freed\n",
+           count, atomic_load(&starts), atomic_load(&handshakes), atomic_load(&censuses), atomic_load(&advanced), atomic_load(&vm_operations), atomic_load(&own), atomic_load(&held), atomic_load(&freed));
     return 0;
 }

@@ -101,6 +101,8 @@ BODY(install, sp_install(at, (uint32_t)n))
 BODY(invalidate, sp_invalidate(at, n))
 BODY(reply, sp_reply(at, n, 1))
 BODY(live_after, sp_live_after(at, n))
+BODY(pending, sp_pending(at))
+BODY(target_all, sp_target_all(at))
 BODY(open_kind, sp_open_kind(at))
 BODY(forget, sp_forget(at))
 BODY(advance, sp_advance(at))
@@ -172,6 +174,7 @@ static void by_hand(void) {
     }
     ON(close, &coordinator, 0, 1);
     ON(reply, &client, 1, FRAMES);
+    ON(target_all, &threads[0], 0, 0);
     ON(target, &client, 2, 0);
     ON(submit, &client, 0, 2);
     ON(drive, &coordinator, 0, 2);
@@ -197,6 +200,9 @@ static void by_advancing(void) {
     ON(advance, &coordinator, 0, SP_RUN);
     ON(advance, &coordinator, 0, 4);
     ON(census, &client, 0, 5);
+    ON(advance, &coordinator, 0, SP_AT_SAFEPOINT);
+    ON(called_operation, &coordinator, 0, 5);
+    ON(pending, &client, 0, 5);
     ON(advance, &coordinator, 0, 5);
     ON(advance, &coordinator, 0, SP_QUEUE_EMPTY);
 }

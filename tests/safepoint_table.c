@@ -28,9 +28,9 @@ static void must(int line, int64_t answer) {
     of(to_vm, sp_to_vm(p)) of(from_vm, sp_from_vm(p)) of(to_native, sp_to_native(p))                                   \
     of(from_native, sp_from_native(p)) of(block, sp_block(p)) of(unblock, sp_unblock(p))                               \
     of(stop_next, sp_stop_next(p)) of(stop_serve, sp_stop_serve(p)) of(target, sp_target(p, 9))                        \
-    of(submit, sp_submit(p, SP_DEPTH, 0)) of(census, sp_census(p)) of(install, sp_install(p, 0))                       \
+    of(target_all, sp_target_all(p)) of(submit, sp_submit(p, SP_DEPTH, 0)) of(census, sp_census(p)) of(install, sp_install(p, 0))                       \
     of(invalidate, sp_invalidate(p, 9)) of(reply, sp_reply(p, 9, 9)) of(live_after, sp_live_after(p, 0))               \
-    of(open_kind, sp_open_kind(p)) of(forget, sp_forget(p)) of(advance, sp_advance(p))                                 \
+    of(open_kind, sp_open_kind(p)) of(pending, sp_pending(p)) of(forget, sp_forget(p)) of(advance, sp_advance(p))                                 \
     of(called_operation, sp_called_operation(p)) of(called_place, sp_called_place(p)) of(awaited, sp_awaited(p))       \
     of(open, sp_open(p)) of(tell, sp_tell(p, 9)) of(hold, sp_hold(p, 9)) of(serve, sp_serve(p, 9))                     \
     of(release, sp_release(p, 9)) of(operate, sp_operate(p)) of(counted, sp_counted(p, 9)) of(close, sp_close(p))      \

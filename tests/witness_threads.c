@@ -320,7 +320,7 @@ static void advance(void) {
     for (bool has_called = false;;) {
         int64_t answer = sp_advance(&coordinator);
         sp_ring();
-        if (answer == SP_RUN) spin(50);
+        if (answer == SP_RUN || answer == SP_AT_SAFEPOINT) spin(50);
         else if (answer == SP_AWAITS && !has_called) submit(false), install((uint32_t)drawn(&coordinator_random, METHODS)), has_called = true;
         else if (answer == SP_AWAITS || answer == SP_AGAIN) sched_yield();
         else if (answer == SP_QUEUE_EMPTY || must("sp_advance", answer)) return;

@@ -1,4 +1,5 @@
 //! Closures as callbacks of C.
+use crate::party::Kind;
 use crate::refusal::Refusal;
 use crate::sys;
 use crate::waiting::answer;
@@ -7,12 +8,15 @@ use std::os::raw::c_void;
 use std::panic::{catch_unwind, resume_unwind, AssertUnwindSafe};
 use std::ptr;
 
-/// An operation that is served at a safe point: the thread doesn't run, and its stack is published.
+/// An operation that is served at a safe point. Of a handshake the thread of the place doesn't run, and its stack is
+/// published. Of a census all live threads are held, and their stacks are published: a VM operation runs.
 #[derive(Clone, Copy, Debug, PartialEq, Eq, Hash)]
 pub struct Served {
     /// The number of the operation.
     pub operation: u64,
-    /// The place of the thread, which [`Thread::place`](crate::Thread::place) tells.
+    /// A handshake, or a census.
+    pub kind: Kind,
+    /// The place of the thread, which [`Thread::place`](crate::Thread::place) tells; 0 of a census.
     pub place: usize,
     /// Whether the thread is held, and the coordinator runs the callback for it.
     pub is_held: bool,
@@ -79,6 +83,7 @@ unsafe extern "C" fn at_safe_point<F: FnMut(Served)>(
     let (running, served) = unsafe { (&mut *with.cast::<Running<F>>(), &*served) };
     let served = Served {
         operation: served.operation,
+        kind: Kind::of(served.kind),
         place: served.place,
         is_held: served.thread.is_null(),
     };

@@ -5,6 +5,7 @@ use crate::sys;
 use crate::waiting::{answer, wait};
 use std::cell::{Cell, UnsafeCell};
 use std::fmt;
+use std::os::raw::c_int;
 use std::ptr;
 
 /// Of which kind a request is.
@@ -14,6 +15,16 @@ pub enum Kind {
     Handshake,
     /// A census of all threads.
     Census,
+}
+
+impl Kind {
+    pub(crate) fn of(number: c_int) -> Kind {
+        if number == sys::CENSUS {
+            Kind::Census
+        } else {
+            Kind::Handshake
+        }
+    }
 }
 
 /// What a handshake asks of each target.
@@ -146,6 +157,36 @@ impl Party {
         self.with_targets(names, |party| unsafe {
             sys::sp_submit(party, asks, serial)
         })
+    }
+
+    /// Submits a handshake with all threads that live then, and answers its number.
+    ///
+    /// # Errors
+    /// [`Refusal::Spent`], [`Refusal::QueueFull`], [`Refusal::NoTargets`] (no thread lives),
+    /// [`Refusal::HistoryFull`], [`Refusal::NoMemory`].
+    pub fn submit_to_all(&self, ask: Ask) -> Result<u64, Refusal> {
+        let (asks, serial) = ask.in_c();
+        answer(self.once(sys::sp_target_all))?;
+        // SAFETY: as in `once`.
+        wait(|| unsafe { sys::sp_submit(self.raw(), asks, serial) })
+    }
+
+    /// The least number of a request that is open or waits, or None: all requests below it are closed.
+    ///
+    /// # Errors
+    /// `safepoint.h` lists none.
+    pub fn pending(&self) -> Result<Option<u64>, Refusal> {
+        let number = wait(|| self.once(sys::sp_pending))?;
+        Ok((number > 0).then_some(number))
+    }
+
+    /// Waits until the request of the number, and each before it, is closed.
+    ///
+    /// # Errors
+    /// `safepoint.h` lists none.
+    pub fn wait_closed(&self, number: u64) -> Result<(), Refusal> {
+        // SAFETY: as in `once`.
+        answer(unsafe { sys::sp_wait_closed(self.raw(), number) }).map(drop)
     }
 
     /// Submits a census of all threads, and answers its number. It waits until the coordinator works on it.

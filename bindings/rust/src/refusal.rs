@@ -73,9 +73,11 @@ refusals! {
     Late = -36, "a thread may still enter the code, or hasn't told that it has";
     Run = -37, "a held thread is served next";
     Awaits = -38, "threads have still to come";
+    AtSafepoint = -39, "all live threads are held at a safepoint";
     Made = -40, "the party is made already";
     BadSize = -41, "a size is 0, or above its limit";
     BadAsk = -42, "there is no such ask";
+    Pending = -43, "the operation isn't closed yet";
 }
 
 impl Error for Refusal {}

@@ -1,6 +1,6 @@
 //! What libsafepoint.a and libsafepoint_wait.a export. `safepoint.h` and `safepoint_wait.h`, in
 //! `crates/safepoint/include`, say what each call does and answers.
-use std::os::raw::{c_uint, c_void};
+use std::os::raw::{c_int, c_uint, c_void};
 
 #[repr(C)]
 #[derive(Debug)]
@@ -14,7 +14,11 @@ pub struct Served {
     pub operation: u64,
     pub place: usize,
     pub thread: *mut Party,
+    pub kind: c_int,
 }
+
+/// The kind of a census; a handshake's is 1.
+pub const CENSUS: c_int = 2;
 
 /// How long a loop has waited: all zeros at first.
 #[repr(C)]
@@ -36,6 +40,10 @@ extern "C" {
     pub fn sp_make(coordinator: *mut Party, places: usize, slots: usize, methods: usize) -> i64;
     pub fn sp_fork(party: *mut Party, other: *mut Party) -> i64;
     pub fn sp_free(party: *mut Party);
+    pub fn sp_target_all(party: *mut Party) -> i64;
+    pub fn sp_pending(party: *mut Party) -> i64;
+    pub fn sp_wait_closed(party: *mut Party, number: u64) -> i64;
+    pub fn sp_at_safepoint(coordinator: *mut Party, call: Callback, with: *mut c_void) -> i64;
     pub fn sp_name(thread: *mut Party) -> i64;
     pub fn sp_place(thread: *mut Party) -> i64;
     pub fn sp_call(thread: *mut Party, method: u32) -> i64;

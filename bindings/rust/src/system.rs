@@ -1,6 +1,6 @@
 //! A system of threads, as its coordinator.
 use crate::callback::{with_callback, Ran, Served};
-use crate::party::Party;
+use crate::party::{Kind, Party};
 use crate::refusal::Refusal;
 use crate::sys;
 use crate::waiting::{answer, wait};
@@ -36,6 +36,8 @@ pub enum Next {
     Closed(u64),
     /// A held thread is served next: the host runs its callback for this now.
     Run(Served),
+    /// All live threads are held, and this census is operated: the host runs its VM operation now.
+    AtSafepoint(u64),
     /// So many threads have still to come to a safe point. They come by themselves.
     Awaits(u64),
 }
@@ -121,6 +123,23 @@ impl Safepoints {
         .resume()
     }
 
+    /// Runs a VM operation: submits a census and works on requests until it is closed. The callback runs once while all
+    /// live threads are held, with [`Kind::Census`], and for each held target of handshakes that were
+    /// submitted before. Answers the census's number.
+    ///
+    /// # Errors
+    /// Those of [`census`](Party::census) and of [`drive`](Safepoints::drive).
+    ///
+    /// # Panics
+    /// Where the callback panics. The census is closed then.
+    pub fn at_safepoint(&mut self, callback: impl FnMut(Served)) -> Result<u64, Refusal> {
+        // SAFETY: as in `drive`.
+        self.running(callback, |party, call, with| unsafe {
+            sys::sp_at_safepoint(party, call, with)
+        })
+        .resume()
+    }
+
     /// Works on the oldest request as far as that goes without waiting for threads, and says what comes next. It is
     /// for a host with its own waits, which calls again at any time; [`drive`](Safepoints::drive) does all.
     ///
@@ -137,6 +156,9 @@ impl Safepoints {
         match said {
             Ok(number) => Ok(Next::Closed(number)),
             Err(Refusal::Run) => self.called().map(Next::Run),
+            Err(Refusal::AtSafepoint) => {
+                answer(self.party.once(sys::sp_called_operation)).map(Next::AtSafepoint)
+            }
             Err(Refusal::Awaits) => answer(self.party.once(sys::sp_awaited)).map(Next::Awaits),
             Err(refusal) => Err(refusal),
         }
@@ -190,6 +212,7 @@ impl Safepoints {
         let place = answer(self.party.once(sys::sp_called_place))?;
         Ok(Served {
             operation,
+            kind: Kind::Handshake,
             place: place as usize,
             is_held: true,
         })

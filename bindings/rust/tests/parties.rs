@@ -2,9 +2,11 @@
 mod common;
 
 use common::{clients, drive_all, in_time, nap, start, threads, with_each_count};
-use safepoint::{Ask, Client, Next, Party, Reclaimed, Refusal, Safepoints, Thread};
+use safepoint::{Ask, Client, Kind, Next, Party, Reclaimed, Refusal, Safepoints, Thread};
 use std::sync::atomic::{AtomicUsize, Ordering};
+use std::sync::mpsc;
 use std::thread;
+use std::time::Duration;
 
 /// Makes each call that any party may make, where a party has made them so often before.
 fn asks_all_that_it_may(party: &Party, round: u64, names: &[u64]) {
@@ -26,10 +28,7 @@ fn asks_all_that_it_may(party: &Party, round: u64, names: &[u64]) {
     assert_eq!(begun, Err(Refusal::StillInUse));
     let begun = party.begin_reclaim(codes[1], names);
     assert_eq!(begun, Err(Refusal::AlreadyOpen));
-    assert_eq!(
-        party.reply(4 * round + 1, names[0]),
-        Err(Refusal::NotAnswered)
-    );
+    assert_eq!(party.reply(4 * round + 1, names[0]), Err(Refusal::Pending));
     assert_eq!(party.open_kind(), Ok(None));
     assert_eq!(party.live().as_deref(), Ok(names));
 }
@@ -116,7 +115,7 @@ fn asks_in_a_method(thread: &mut Thread) -> Result<(), Refusal> {
             submitted => break submitted?,
         }
     };
-    while thread.reply(operation, thread.name()) == Err(Refusal::NotAnswered) {
+    while thread.reply(operation, thread.name()) == Err(Refusal::Pending) {
         thread.poll()?;
         nap();
     }
@@ -175,7 +174,7 @@ fn a_blocked_thread_asks_by_a_client() {
             let (client, name) = (thread.client().unwrap(), thread.name());
             let waits = || {
                 let operation = client.submit(&[name], Ask::Depth).unwrap();
-                while client.reply(operation, name) == Err(Refusal::NotAnswered) {
+                while client.reply(operation, name) == Err(Refusal::Pending) {
                     nap();
                 }
                 client.reply(operation, name)
@@ -192,6 +191,7 @@ fn a_blocked_thread_asks_by_a_client() {
                 match system.advance() {
                     Ok(Next::Closed(number)) => assert!(number <= count as u64),
                     Ok(Next::Run(served)) => assert!(served.is_held),
+                    Ok(Next::AtSafepoint(census)) => panic!("census {census}"),
                     Ok(Next::Awaits(late)) => assert!(late <= 1),
                     Err(refusal) => assert_eq!(refusal, Refusal::QueueEmpty),
                 }
@@ -210,4 +210,51 @@ fn a_party_outlives_the_coordinator() {
     assert_eq!(client.open_kind(), Ok(None));
     let thread = client.start(|_| {}).unwrap();
     assert_eq!(thread.live(), Ok(vec![thread.name()]));
+}
+
+#[test]
+fn a_vm_operation_runs_once_while_all_are_held() {
+    let _in_time = in_time();
+    let mut system = Safepoints::new(4, 4, 4).unwrap();
+    let (ready, started) = mpsc::channel();
+    let clients = [system.client().unwrap(), system.client().unwrap()];
+    let threads = clients.map(|client| {
+        let ready = ready.clone();
+        thread::spawn(move || {
+            let mut thread = client.start(|_| {}).unwrap();
+            let name = thread.name();
+            let wait = || {
+                ready.send(name).unwrap();
+                thread::sleep(Duration::from_millis(20));
+            };
+            thread.in_native(wait).unwrap();
+        })
+    });
+    let names = [(); 2].map(|()| started.recv().unwrap());
+    let handshake = system.submit_to_all(Ask::Depth).unwrap();
+    assert_eq!(system.pending(), Ok(Some(handshake)));
+    let mut operations = 0;
+    let census = system
+        .at_safepoint(|served| {
+            if served.kind == Kind::Census {
+                operations += 1;
+                assert_eq!(
+                    (served.operation, served.place, served.is_held),
+                    (handshake + 1, 0, true)
+                );
+            }
+        })
+        .unwrap();
+    assert_eq!((census, operations), (handshake + 1, 1));
+    assert_eq!(system.wait_closed(census), Ok(()));
+    assert_eq!(system.pending(), Ok(None));
+    for name in names {
+        assert!(matches!(
+            system.reply(handshake, name),
+            Ok(0) | Err(Refusal::NotAnswered)
+        ));
+    }
+    for thread in threads {
+        thread.join().unwrap();
+    }
 }

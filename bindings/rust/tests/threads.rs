@@ -112,6 +112,7 @@ fn the_work_is_advanced_step_by_step() {
             loop {
                 match system.advance().unwrap() {
                     Next::Closed(number) => break assert_eq!(number, operation),
+                    Next::AtSafepoint(census) => panic!("census {census}"),
                     Next::Run(served) => {
                         assert!(served.operation == operation && served.place < 2);
                         assert!(served.is_held);

@@ -1,4 +1,4 @@
--- A census that is sorted, of serials that differ, is rising.
+-- A sorted census whose serials differ is rising.
 use Rattle.std.proofs.Common.{◌≡◌, ℕ, suc, ◌+◌, ◌<◌, ◌≤◌, ◌∙◌, sym, Bool, true, false, eqb, cond, List, [], ◌∷◌, length, get_or, refl, arith}
 use Rattle.std.specs.List.Sorted.{IsPermutation, IsNonDecreasingBy}
 use Rattle.std.specs.Prelude.{Some, None}
@@ -43,7 +43,7 @@ rising least (p ∷ ps) first sorted z few =
         let l = le d (omega arith) in
         one_each p.0 q.0 (of_serial p.0 qs) l (omega (arith, a, b, few))
 
--- no cell that counts nothing is listed
+-- the list has no pair with the count 0
 no_zero : (cells : List Entry) → zeros (counted cells) ≡ 0
 no_zero [] = refl
 no_zero (e ∷ es) = step (eqb e.count 0) refl (no_zero es)

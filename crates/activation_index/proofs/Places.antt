@@ -1,15 +1,15 @@
--- Where a serial stands in rising entries.
+-- The index of a serial in rising entries.
 use Rattle.std.proofs.Common.{◌≡◌, ℕ, ◌+◌, ◌<◌, ◌≤◌, ◌∙◌, zero, suc, Bool, true, false, ltb, eqb, List, [], ◌∷◌, length, get_or, refl, ap, sym, cond, arith}
 use Rattle.std.proofs.lemmas.Bool.Decides.{nat_tests}
 use Rattle.std.specs.List.Sorted.{IsPartitionedBy, IsPartitionPoint}
 use Rattle.activation_index.specs.declared.Entry.{Entry}
 use Rattle.activation_index.specs.Counts.{count_in, place_in, IsRisingFrom, IsAt}
 
--- An entry is before the serial.
+-- The entry's serial is smaller than this serial.
 abbrev pub is_before : ℕ → Entry → Bool
 is_before serial entry = ltb entry.serial serial
 
--- No entry of rising ones is less than where they begin.
+-- No serial of rising entries is less than the least.
 at_least : (es : List Entry) (least k : ℕ) (d : Entry) → IsRisingFrom least es → k < length es → least ≤ (get_or es k d).serial
 at_least [] least k d r below = absurd (omega (arith, below))
 at_least (e ∷ es) least zero d r below = r.0
@@ -32,7 +32,7 @@ point_is (e ∷ es) serial (suc point) le parts =
     let rest = point_is es serial point (omega (arith, le)) (λ k d low high. parts.0 (suc k) d (omega (arith, low)) (omega (arith, high)), λ k d low high. parts.1 (suc k) d (omega (arith, low)) (omega (arith, high))) in
     ap suc rest ∙ sym (ap (λ b. cond b (suc (place_in es serial)) 0) first)
 
--- The count of a serial stands where it does.
+-- The entry at the serial's index has the serial's count.
 pub found : (es : List Entry) (least serial : ℕ) (d : Entry) → IsRisingFrom least es → IsAt es serial (place_in es serial) → (get_or es (place_in es serial) d).count ≡ count_in es serial
 found [] least serial d r at = absurd at
 found (e ∷ es) least serial d r at = by_test (ltb e.serial serial) refl at (found es (e.serial + 1) serial d r.2)

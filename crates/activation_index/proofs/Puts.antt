@@ -1,4 +1,4 @@
--- An entry is put where its serial belongs.
+-- Setting a serial's count keeps the entries in order.
 use Rattle.std.proofs.Common.{◌≡◌, ◌≢◌, ℕ, ◌+◌, ◌<◌, ◌≤◌, ◌∙◌, zero, suc, Bool, true, false, ltb, eqb, List, [], ◌∷◌, length, set, get_or, refl, ap, cond, arith}
 use Rattle.std.proofs.lemmas.Int.{ints}
 use Rattle.std.specs.Prelude.{insert, remove, ℤ, pos, ◌+ℤ◌}
@@ -62,7 +62,7 @@ pub kept : (es : List Entry) (serial : ℕ) → IsNotAt es serial (place_in es s
 kept [] serial h = refl
 kept (e ∷ es) serial h = kept_step e es serial (ltb e.serial serial) refl (kept es serial) h
 
--- the serial has no count where no entry stands at its place
+-- a serial without an entry at its index has no count
 absent_step : (e : Entry) (es : List Entry) (least serial : ℕ) (b : Bool) → ltb e.serial serial ≡ b → IsRisingFrom least (e ∷ es) → (IsNotAt es serial (place_in es serial) → count_in es serial ≡ 0) → IsNotAt (e ∷ es) serial (cond b (suc (place_in es serial)) 0) → cond (eqb e.serial serial) e.count (count_in es serial) ≡ 0
 absent_step e es least serial true k r rest h = let other : eqb e.serial serial ≡ false = grind (arith, nat_tests) in rw other (rest h)
 absent_step e es least serial false k r rest h = let other : eqb e.serial serial ≡ false = grind (arith, nat_tests) in rw other (count_in_new es (e.serial + 1) serial r.2 (grind (arith, nat_tests)))
@@ -88,7 +88,7 @@ pub count_in_other : (entries : List Entry) (serial count q : ℕ) → (q ≡ se
 count_in_other [] serial count q ne = let no : eqb serial q ≡ false = grind (arith, nat_tests) in count_with serial count q [] ∙ (rw no (elim (eqb count 0) as (λ z. cond z 0 0 ≡ count_in [] q) [ true ↦ refl | false ↦ refl ]))
 count_in_other (e ∷ es) serial count q ne = other_step e es serial count q (ltb e.serial serial) ne (count_in_other es serial count q ne)
 
--- the serial has its new count
+-- the serial has the new count
 here_step : (e : Entry) (es : List Entry) (least serial count : ℕ) (b : Bool) → ltb e.serial serial ≡ b → IsRisingFrom least (e ∷ es) → count_in (put es serial count) serial ≡ count → count_in (cond b (e ∷ put es serial count) (cond (eqb e.serial serial) (with_entry serial count es) (with_entry serial count (e ∷ es)))) serial ≡ count
 here_step e es least serial count true k r rest = let other : eqb e.serial serial ≡ false = grind (arith, nat_tests) in rw other rest
 here_step e es least serial count false k r rest =
@@ -165,7 +165,7 @@ length_step e es least serial count false lt r rest =
           omega arith)
     ] refl
 
--- the list has an entry more or less where the serial gets its first count or loses its last
+-- the first count of a serial adds an entry, and a count of 0 removes one
 pub length-put :
     (es : List Entry) (least serial count : ℕ) → IsRisingFrom least es
     → length (put es serial count) + entries_for (count_in es serial) ≡ length es + entries_for count
@@ -187,7 +187,7 @@ pub few_put :
 few_put es least serial count n r le room =
     few_by (length (put es serial count)) (length es) (count_in es serial) count n (length-put es least serial count r) le room
 
--- a serial gets a first count only where something is added
+-- a serial gets its first count only if the addend isn't 0
 pub room_for :
     (es : List Entry) (serial count slots : ℕ) (by : ℤ) → pos count ≡ pos (count_in es serial) +ℤ by
     → (count_in es serial ≡ 0 → by ≢ pos 0 → length es < slots)

@@ -2,25 +2,25 @@
 use Rattle.std.specs.Prelude.{◌≡◌, ℕ, zero, suc, ◌+◌, ◌<◌, ◌≤◌, ◌==◌, nat_lt, List, [], ◌∷◌, if◌then◌else◌}
 use Rattle.activation_index.specs.declared.Entry.{Entry}
 
--- what a contract sees of an index
+-- an index as contracts see it
 pub record IndexView : Type 0 where
   pub slots : ℕ
   pub entries : List Entry
 
--- the count of a serial, 0 where it has none
+-- the count of a serial, or 0
 abbrev pub count_in : List Entry → ℕ → ℕ
 count_in [] serial = 0
 count_in (entry ∷ entries) serial = if entry.serial == serial then entry.count else count_in entries serial
 
--- the entry, unless its count is 0, before the others
+-- the entry before the others, if its count isn't 0
 abbrev pub with_entry : ℕ → ℕ → List Entry → List Entry
 with_entry serial count entries = if count == 0 then entries else record { serial = serial; count = count } ∷ entries
 
--- how many entries a count takes: none where it is 0
+-- how many entries a count needs
 abbrev pub entries_for : ℕ → ℕ
 entries_for count = if count == 0 then 0 else 1
 
--- the counts with this one of the serial
+-- the counts after the serial's count is set
 abbrev pub put : List Entry → ℕ → ℕ → List Entry
 put [] serial count = with_entry serial count []
 put (entry ∷ entries) serial count =
@@ -33,18 +33,18 @@ abbrev pub IsRisingFrom : ℕ → List Entry → Type 0
 IsRisingFrom least [] = Unit {0}
 IsRisingFrom least (entry ∷ entries) = (least ≤ entry.serial) × (0 < entry.count) × IsRisingFrom (entry.serial + 1) entries
 
--- where the entry of the serial stands, or would stand
+-- the index of the serial's entry, or the index at which it belongs
 abbrev pub place_in : List Entry → ℕ → ℕ
 place_in [] serial = 0
 place_in (entry ∷ entries) serial = if nat_lt entry.serial serial then suc (place_in entries serial) else 0
 
--- the serial stands at the place
+-- the serial's entry is at this index
 abbrev pub IsAt : List Entry → ℕ → ℕ → Type 0
 IsAt [] serial place = ⊥
 IsAt (entry ∷ entries) serial zero = entry.serial ≡ serial
 IsAt (entry ∷ entries) serial (suc place) = IsAt entries serial place
 
--- it doesn't stand there
+-- the serial's entry isn't at this index
 abbrev pub IsNotAt : List Entry → ℕ → ℕ → Type 0
 IsNotAt [] serial place = Unit {0}
 IsNotAt (entry ∷ entries) serial zero = entry.serial ≡ serial → ⊥

@@ -1,11 +1,11 @@
 -- A census: serials with their counts.
 use Rattle.std.specs.Prelude.{ℕ, ◌+◌, ◌<◌, ◌≤◌, ◌==◌, List, [], ◌∷◌, count_by}
 
--- how many pairs are of the serial
+-- how many pairs have this serial
 abbrev pub of_serial : ℕ → List (ℕ × ℕ) → ℕ
 of_serial serial pairs = count_by (λ pair. pair.0 == serial) pairs
 
--- how many pairs count nothing
+-- how many pairs have the count 0
 abbrev pub zeros : List (ℕ × ℕ) → ℕ
 zeros pairs = count_by (λ pair. pair.1 == 0) pairs
 

@@ -1,4 +1,4 @@
-//! Counts by slot: a cell for each, with the serial of the code that stands there and its count.
+//! Counts by slot: each cell has the serial of the slot's code and its count.
 ghost use Rattle.std.specs.Prelude.{◌≡◌, ◌≢◌, ℕ, ◌+◌, ◌<◌, ◌≤◌, ◌==◌, List, [], ◌∷◌, length, true, false, IfOk, pos, ℤ, ◌+ℤ◌, ◌≤ℤ◌, map, slice_set, slice_get, replicate, OnErr, Some, None, if◌then◌else◌};
 ghost use Rattle.std.specs.List.Sorted.{IsPermutation, IsNonDecreasingBy};
 ghost use Rattle.activation_index.specs.Cells.{count_at, cell_of, counted, pair_of};
@@ -8,7 +8,7 @@ use crate::{Entry, moved};
 use std::alloc::{AllocError, Global};
 use std::marker::Model;
 
-/// The counts of codes by slot. Contracts see it as its cells, each a serial with its count.
+/// The counts of codes by slot. Contracts see the list of its cells.
 #[derive(Drop)]
 pub struct DenseIndex {
     cells: Vec<Entry>,
@@ -24,10 +24,10 @@ impl Model for DenseIndex {
 }
 
 impl DenseIndex {
-    /// Cells for so many slots, with serial 0 and count 0 in each.
+    /// Makes cells for this many slots, with serial 0 and count 0 in each.
     ///
     /// # Errors
-    /// The allocator has no room for so many cells.
+    /// Memory is refused.
     pub fn new(alloc: Global, slots: usize) -> Result<DenseIndex, AllocError>
         ensures empty { IfOk result (λ index. index ≡ replicate slots (cell_of 0 0)) }
     {
@@ -40,7 +40,7 @@ impl DenseIndex {
         })
     }
 
-    /// The slot's cell is that of the serial from now on. The caller sees to it that its count is 0 and its serial less.
+    /// Gives the slot's cell to a new serial. The cell's count must be 0 and its serial smaller.
     pub fn place(&mut self, slot: usize, serial: u64)
         requires slot { slot < length self.old }
         requires free { (cell : _) → slice_get self.old slot ≡ Some cell → (cell.count ≡ 0)
@@ -50,8 +50,8 @@ impl DenseIndex {
         self.cells[slot] = Entry { serial, count: 0 };
     }
 
-    /// Adds `by` to the count of the slot's cell, whose serial is this one. The caller sees to it that the new count is
-    /// from 0 to 16,384, which is 64 stacks of 256 frames.
+    /// Adds `by` to the count of the slot's cell, which must have this serial. The new count must be from 0 to 16,384,
+    /// which is 64 stacks of 256 frames.
     pub fn add(&mut self, slot: usize, serial: u64, by: i32)
         requires slot { slot < length self.old }
         requires serial { (cell : _) → slice_get self.old slot ≡ Some cell → cell.serial ≡ serial }
@@ -67,7 +67,7 @@ impl DenseIndex {
         self.cells[slot] = Entry { serial, count };
     }
 
-    /// The count of the slot's cell where its serial is this one, else 0.
+    /// Returns the count of the slot's cell if the cell has this serial, otherwise 0.
     pub fn count(&self, slot: usize, serial: u64) -> u32
         ensures { result ≡ count_at self.now slot serial }
     {
@@ -77,10 +77,10 @@ impl DenseIndex {
         }
     }
 
-    /// The serials that have counts, rising, each with its count.
+    /// Returns the serials with a count above 0, rising, each with its count.
     ///
     /// # Errors
-    /// The allocator has no room for the list.
+    /// Memory is refused.
     pub fn census(&self, alloc: Global) -> Result<Vec<(u64, u32)>, AllocError>
         ensures census { IfOk result (λ census. IsPermutation (counted self.now) census.items) }
         ensures sorted { IfOk result (λ census. IsNonDecreasingBy (λ pair. pair.0) census.items) }
@@ -94,7 +94,7 @@ impl DenseIndex {
     }
 }
 
-// The cell as a serial and its count, where it counts something.
+// The serial and count of a cell whose count isn't 0.
 fn pair_of(cell: &Entry) -> Option<(u64, u32)>
     ensures { result ≡ pair_of cell.now }
 {
@@ -105,7 +105,6 @@ fn pair_of(cell: &Entry) -> Option<(u64, u32)>
     }
 }
 
-// The cells that count something, by slot.
 fn counted_cells(alloc: Global, cells: &[Entry]) -> Result<Vec<(u64, u32)>, AllocError>
     ensures { IfOk result (λ list. list.items ≡ counted cells.now) }
 {

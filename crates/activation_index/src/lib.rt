@@ -2,10 +2,10 @@
 //! `system` counts in it, and `bodies` takes a census by it.
 //! Read `specs/Counts.antt` first, then `src/lib.rt` and `src/dense.rt`.
 //!
-//! An [`Index`] is a map from serials to counts. It is a list of entries in rising serial without
-//! zeros, reserved once and searched by halves, so a census is the list as it stands.
-//! A [`DenseIndex`](dense::DenseIndex) has a cell for each slot instead, so that adding and reading
-//! search nothing, and sorts its cells for a census.
+//! An [`Index`] maps serials to counts. It is a list of entries in rising serial without zeros. Its memory is reserved
+//! once, and a search is binary. A census is this list as it is.
+//! A [`DenseIndex`](dense::DenseIndex) has a cell for each slot instead. So it adds and reads without a search, and
+//! sorts its cells for a census.
 #![tactic(auto)]
 
 ghost use Rattle.std.specs.Prelude.{◌≡◌, ◌≢◌, ℕ, ◌+◌, ◌-◌, ◌<◌, ◌≤◌, ◌==◌, List, [], ◌∷◌, ◌++◌, length, take, drop, true, false, IfOk, pos, ℤ, ◌+ℤ◌, ◌≤ℤ◌, ◌<ℤ◌, map, nat_lt, vec_capacity, vec_len, insert, remove, slice_set, slice_get};
@@ -25,7 +25,7 @@ pub struct Entry {
 
 /// The counts of at most `slots` codes, by serial. A serial without an entry has the count 0.
 ///
-/// Contracts see it as its number of slots and its entries in rising serial, none of them 0.
+/// Contracts see its number of slots and its entries in rising serial, none with count 0.
 #[derive(Drop)]
 pub struct Index {
     slots: usize,
@@ -45,10 +45,10 @@ impl Model for Index {
 }
 
 impl Index {
-    /// An index of no counts, with room for those of `slots` codes. It takes no memory afterwards.
+    /// Makes an empty index with memory for the counts of `slots` codes. No other method but `census` allocates.
     ///
     /// # Errors
-    /// The allocator has no room for so many entries.
+    /// Memory is refused.
     pub fn new(alloc: Global, slots: usize) -> Result<Index, AllocError>
         ensures empty { IfOk result (λ index. index ≡ record { slots = slots; entries = [] }) }
     {
@@ -58,7 +58,7 @@ impl Index {
         })
     }
 
-    /// The count of the code with the serial, 0 where it has none.
+    /// Returns the count of the code with this serial, or 0.
     pub fn count(&self, serial: u64) -> u32
         ensures count { result ≡ count_in self.now.entries serial }
         ensures rising { IsRisingFrom 0 self.now.entries }
@@ -67,11 +67,10 @@ impl Index {
         count_of(&self.entries, serial)
     }
 
-    /// Adds `by` to the count of the code with the serial.
+    /// Adds `by` to the count of the code with this serial.
     ///
-    /// The caller sees to it that the new count is from 0 to 16,384, which is 64 stacks of 256
-    /// frames, and that no more than `slots` codes have counts then. For that it may take the
-    /// entries to rise, as those of every index do.
+    /// The new count must be from 0 to 16,384, which is 64 stacks of 256 frames. At most `slots` codes may then have
+    /// counts; to show this the caller may assume that the entries rise, as those of every index do.
     pub fn add(&mut self, serial: u64, by: i32)
         requires low { pos 0 ≤ℤ (pos (count_in self.old.entries serial) +ℤ by) }
         requires high { (pos (count_in self.old.entries serial) +ℤ by) ≤ℤ pos 16384 }
@@ -92,10 +91,10 @@ impl Index {
         put(&mut self.entries, serial, count);
     }
 
-    /// The serials that have counts, rising, each with its count.
+    /// Returns the serials with a count above 0, rising, each with its count.
     ///
     /// # Errors
-    /// The allocator has no room for the list.
+    /// Memory is refused.
     pub fn census(&self, alloc: Global) -> Result<Vec<(u64, u32)>, AllocError>
         ensures census { IfOk result (λ census.
             census.items ≡ map (λ entry. (entry.serial, entry.count)) self.now.entries) }
@@ -120,7 +119,7 @@ fn count_of(entries: &[Entry], serial: u64) -> u32
     }
 }
 
-// The count after the addition, which is taken in 64 bits as neither summand's type holds both.
+// The sum is taken in 64 bits, since neither summand's type holds both.
 fn moved(count: u32, by: i32) -> u32
     requires low { pos 0 ≤ℤ (pos count +ℤ by) }
     requires high { (pos count +ℤ by) ≤ℤ pos 16384 }
@@ -129,7 +128,7 @@ fn moved(count: u32, by: i32) -> u32
     (i64::from(count) + i64::from(by)) as u32
 }
 
-// Where the entry of the serial stands, or would stand.
+// The index of the serial's entry, or the index at which it belongs.
 fn place_of(entries: &[Entry], serial: u64) -> usize
     requires { IsRisingFrom 0 entries.now }
     ensures { result ≡ place_in entries.now serial }
@@ -137,7 +136,7 @@ fn place_of(entries: &[Entry], serial: u64) -> usize
     entries.partition_point(|entry| entry.serial < serial)
 }
 
-// Gives the serial the count: a count of 0 takes its entry away.
+// Sets the serial's count. A count of 0 removes the entry.
 fn put(entries: &mut Vec<Entry>, serial: u64, count: u32)
     requires rising { IsRisingFrom 0 entries.old.items }
     requires room { count_in entries.old.items serial ≡ 0 → count ≢ 0

@@ -102,7 +102,7 @@ fn tell_times(rt: &HostRuntime, times: Result<Vec<u64>, Wrong>) -> bool {
 }
 
 fn tell_wrong(rt: &HostRuntime, wrong: Wrong) -> bool {
-    let _ = eprintln!(rt; "bench_running: {wrong}");
+    let _ = eprintln!(rt; "bench_running: {}", wrong.text());
     false
 }
 

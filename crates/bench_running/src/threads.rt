@@ -139,10 +139,7 @@ fn heed<N: Name, J: HandshakeOp, R: Wait>(
     thread: &mut Mutator<'_, N, J>,
     said: Poll,
 ) -> bool {
-    match said {
-        Poll::Go => true,
-        Poll::Stop(_) => thread.stop(rt).is_ok(),
-    }
+    matches!(said, Poll::Go) || thread.stop(rt).is_ok()
 }
 
 // Makes back edges.

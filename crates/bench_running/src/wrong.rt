@@ -1,6 +1,6 @@
 //! Why there are no times.
 use std::alloc::AllocError;
-use std::{fmt, io};
+use std::io;
 
 /// What went wrong.
 #[derive(Clone, Copy, Drop)]
@@ -26,13 +26,13 @@ impl From<io::Error> for Wrong {
     }
 }
 
-impl fmt::Display for Wrong {
-    fn fmt<W: fmt::Write>(&self, f: &mut fmt::Formatter<W>) -> fmt::Result {
+impl Wrong {
+    pub fn text(self) -> &'static str {
         match self {
-            Wrong::NoMemory => write!(f, "no memory"),
-            Wrong::NoThread => write!(f, "no thread"),
-            Wrong::NoClock => write!(f, "no clock"),
-            Wrong::Answer => write!(f, "a wrong answer"),
+            Wrong::NoMemory => "no memory",
+            Wrong::NoThread => "no thread",
+            Wrong::NoClock => "no clock",
+            Wrong::Answer => "a wrong answer",
         }
     }
 }

@@ -3,33 +3,36 @@ ghost use Rattle.std.specs.Prelude.{◌≡◌};
 
 use std::marker::Model;
 
-/// Numbers in their order.
+/// Items in their order.
 #[derive(Debug, Drop)]
-pub struct Numbers {
-    items: Vec<u64>,
+pub struct Items<T> {
+    items: Vec<T>,
 }
 
-impl Model for Numbers {
-    ghost use Rattle.std.specs.Prelude.{List, ℕ};
+impl<T> Model for Items<T> {
+    ghost use Rattle.std.specs.Prelude.{List};
 
-    ghost Value = { List ℕ };
+    ghost Value = { List T };
 
     ghost view = { λ l. l.items.items };
 }
 
-impl Numbers {
-    pub fn from_vec(items: Vec<u64>) -> Numbers
+impl<T> Items<T> {
+    pub fn from_vec(items: Vec<T>) -> Items<T>
         ensures { result ≡ items.items }
     {
-        Numbers { items }
+        Items { items }
     }
 
-    pub fn as_slice(&self) -> &[u64]
+    pub fn as_slice(&self) -> &[T]
         ensures { result.now ≡ self.now }
     {
         self.items.as_slice()
     }
 }
+
+/// Numbers in their order.
+pub type Numbers = Items<u64>;
 
 /// A job that ran during a call: its operation, its thread, its reply, and a ticket that was drawn when it ran.
 #[derive(Clone, Copy, Debug, PartialEq, Eq, Drop)]
@@ -41,30 +44,4 @@ pub struct Job {
 }
 
 /// Jobs in the order in which they ran.
-#[derive(Debug, Drop)]
-pub struct Jobs {
-    items: Vec<Job>,
-}
-
-impl Model for Jobs {
-    ghost use Rattle.std.specs.Prelude.{List};
-    ghost use Rattle.call_log.specs.declared.lists.Job.{Job};
-
-    ghost Value = { List Job };
-
-    ghost view = { λ l. l.items.items };
-}
-
-impl Jobs {
-    pub fn from_vec(items: Vec<Job>) -> Jobs
-        ensures { result ≡ items.items }
-    {
-        Jobs { items }
-    }
-
-    pub fn as_slice(&self) -> &[Job]
-        ensures { result.now ≡ self.now }
-    {
-        self.items.as_slice()
-    }
-}
+pub type Jobs = Items<Job>;

@@ -61,16 +61,17 @@ impl fmt::Display for Fault {
     ghost output = { λ fault. Some (fault_text fault) };
 
     fn fmt<W: fmt::Write>(&self, f: &mut fmt::Formatter<W>) -> fmt::Result {
-        match self {
-            Fault::BadWords => write!(f, "bad words"),
-            Fault::FileNotRead => write!(f, "file not read"),
-            Fault::BadScript(flaw, place) => write!(f, "{flaw} at {place}"),
-            Fault::ReadFailed => write!(f, "read failed"),
-            Fault::WriteFailed => write!(f, "write failed"),
-            Fault::NoMemory => write!(f, "no memory"),
-            Fault::NoThread => write!(f, "no thread"),
-            Fault::Refused => write!(f, "refused"),
-        }
+        let text = match self {
+            Fault::BadScript(flaw, place) => return write!(f, "{flaw} at {place}"),
+            Fault::BadWords => "bad words",
+            Fault::FileNotRead => "file not read",
+            Fault::ReadFailed => "read failed",
+            Fault::WriteFailed => "write failed",
+            Fault::NoMemory => "no memory",
+            Fault::NoThread => "no thread",
+            Fault::Refused => "refused",
+        };
+        f.write_str(text)
     }
 }
 

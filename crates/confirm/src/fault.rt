@@ -45,23 +45,23 @@ fn line_fault_text(fault: LineFault) -> &'static str {
 
 impl fmt::Display for Fault {
     fn fmt<W: fmt::Write>(&self, f: &mut fmt::Formatter<W>) -> fmt::Result {
-        match self {
-            Fault::BadWords => write!(f, "bad words"),
-            Fault::ReadFailed => write!(f, "read failed"),
-            Fault::TooLong => write!(f, "log too long"),
-            Fault::NoOrder => write!(f, "bad order: no line `order`"),
-            Fault::BadLog(ReadFault::Header) => write!(f, "bad log: header"),
-            Fault::BadLog(ReadFault::TooMany) => write!(f, "bad log: too many calls"),
-            Fault::BadLog(ReadFault::NoMemory) => write!(f, "no memory"),
+        let text = match self {
+            Fault::BadWords => "bad words",
+            Fault::ReadFailed => "read failed",
+            Fault::TooLong => "log too long",
+            Fault::NoOrder => "bad order: no line `order`",
+            Fault::BadLog(ReadFault::Header) => "bad log: header",
+            Fault::BadLog(ReadFault::TooMany) => "bad log: too many calls",
             Fault::BadLog(ReadFault::Line(number, fault)) => {
                 let what = line_fault_text(*fault);
-                write!(f, "bad log: line {number}: {what}")
+                return write!(f, "bad log: line {number}: {what}");
             }
-            Fault::Tickets => write!(f, "bad log: tickets of a stream don't rise"),
-            Fault::BadOrder(number) => write!(f, "bad order: line {number}"),
-            Fault::WriteFailed => write!(f, "write failed"),
-            Fault::NoMemory => write!(f, "no memory"),
-        }
+            Fault::Tickets => "bad log: tickets of a stream don't rise",
+            Fault::BadOrder(number) => return write!(f, "bad order: line {number}"),
+            Fault::WriteFailed => "write failed",
+            Fault::NoMemory | Fault::BadLog(ReadFault::NoMemory) => "no memory",
+        };
+        f.write_str(text)
     }
 }
 

@@ -1,4 +1,4 @@
--- Whether there was something to ask, by the jobs.
+-- There is a request to ask if there are jobs.
 use Rattle.std.proofs.Common.{◌≡◌, ◌≢◌, ◌<◌, ℕ, true, false, List, [], ◌∷◌, Option, Some, None, length, refl, arith}
 use Rattle.operations.specs.declared.Ask.{Ask}
 use Rattle.desk.specs.JobsFit.{request_of}

@@ -1,4 +1,4 @@
--- Where a census lacks its list, what was held before all were told is held.
+-- If a census lacks its list, the bodies that were held before the arming stay held.
 use Rattle.std.proofs.Common.{◌≡◌, ◌++◌, ℕ, true, List, Option, Some, None, sym, subst, ap, ◌∙◌}
 use Rattle.std.specs.Prelude.{Result, Ok, Err, IfOk, IfErr, OnErr, IfSome}
 use Rattle.bodies.specs.Census.{IsCensus}
@@ -20,7 +20,7 @@ lacked old mid new (Err NoMemory) same arms e lacks holds =
     (lacks, ((holds.0.0, holds.0.1 ∙ ap (λ bs. bs ++ holds.0.0) same.0), holds.1 ∙ same.1, arms_then old.armer mid.armer new.armer arms holds.2))
 lacked old mid new (Err QueueEmpty) same arms e lacks holds = absurd (let k : QueueEmpty ≡ NoMemory = e in cc)
 
--- What is listed of what is held on is listed of what was held.
+-- A list of the bodies after the arming is one of the bodies before it.
 list_on : (old mid : Holding) (list : List (ℕ × ℕ)) (o : Option (ℕ × OperatingSeen)) → mid.held ≡ old.held → mid.operated ≡ old.operated → IsListOf mid list o → IsListOf old list o
 list_on old mid list None held operated h = (sym operated ∙ h.0, (h.1.0, subst (λ bs. IsCensus (bs ++ h.1.0) list) held h.1.1))
 list_on old mid list (Some o) held operated h = h
@@ -34,7 +34,7 @@ pub listed_on : {F : Type 0} (old mid : Holding) (r : Result (Driven × WorkedSe
 listed_on old mid (Err e) same h = tt
 listed_on old mid (Ok a) same h = listed old mid a.0 a.1 same.0 same.1 h
 
--- The list again of a census that this coordinator had operated.
+-- The second list of a census that this coordinator had operated.
 pub listed_again : (old new : Holding) (o : Option CountedSeen) → HoldsOn old new → new.operated ≡ true → IfSome o (λ c. IsCensus new.held c.list × (c.operated ≡ None)) → IfSome o (IsCounted old)
 listed_again old new None holds operated h = tt
 listed_again old new (Some c) holds operated h =

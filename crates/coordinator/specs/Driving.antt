@@ -1,4 +1,4 @@
--- What driving answers.
+-- The results of driving.
 use Rattle.std.specs.Prelude.{◌≡◌, ◌⊎◌, ◌++◌, ℕ, true, List, [], Option, Some, None, IfSome}
 use Rattle.bodies.specs.Bodies.{BodyView}
 use Rattle.bodies.specs.Census.{IsCensus}
@@ -21,40 +21,41 @@ abbrev pub number_of : Driven → ℕ
 number_of (Handshake n) = n
 number_of (Census n list) = n
 
--- A request that was closed: its number, and what the receipt shows.
+-- A closed request: its number, and its Close as the receipt shows it.
 pub record ClosedSeen : Type 0 where
   pub number : ℕ
   pub shown : ClosingSeen
 
--- What shows that a request was worked on: what the receipt of its Close shows, and that of its Operate, with the number, where it has one.
+-- The evidence of the work on a request: its Close and, if it was operated for it, its number and its Operate, as the
+-- receipts show them.
 pub record WorkedSeen : Type 0 where
   pub closing : ClosingSeen
   pub operated : Option (ℕ × OperatingSeen)
 
--- What was counted, and what the receipt of the Operate shows, with the number, where it was operated for that.
+-- The counts of a census and, if it was operated for them, its number and its Operate as the receipt shows it.
 pub record CountedSeen : Type 0 where
   pub list : List (ℕ × ℕ)
   pub operated : Option (ℕ × OperatingSeen)
 
--- By the receipt of its Close the number is that of the oldest open request, and it was of this kind.
+-- By the receipt of its Close the request is of this kind, and the oldest open one had this number.
 abbrev pub WasOldest : Kind → ℕ → ClosingSeen → Type 0
 WasOldest k n c = (c.oldest ≡ n) × (c.kind ≡ k)
 
--- What was worked on is told as what it was.
+-- The result names the request as the receipt of its Close does.
 abbrev pub IsWorked : Driven → ClosingSeen → Type 0
 IsWorked (Handshake n) c = WasOldest kind.Handshake n c
 IsWorked (Census n list) c = WasOldest kind.Census n c
 
--- What was held is held, and more may be behind it; what was armed is armed, or a greater number.
+-- The held bodies stay held, and others may follow. No armed number falls.
 abbrev pub HoldsOn : Holding → Holding → Type 0
 HoldsOn old new = ((more : List BodyView) × (new.held ≡ old.held ++ more)) × (new.operated ≡ old.operated) × ArmsOn old.armer new.armer
 
--- A census is open, and lacks its list alone: it may be operated over the bodies, or it is operated.
+-- A census is open and lacks only its list: it may be operated over the bodies, or it is operated.
 abbrev pub LacksList : State → List BodyView → Type 0
 LacksList s bodies = MayOperate s bodies ⊎ ((front_is (λ c. is_census c.request) s.opened true) × (front_is (λ c. c.operated) s.opened true))
 
--- A list is the one that the receipt of the Operate shows. Where there is none, the coordinator had operated the census: then the list is
--- a census of what was held, with what is held behind it.
+-- The receipt of the Operate shows the list. Without a receipt the coordinator had operated the census, and the list is
+-- a census of the bodies that were held and those that followed.
 abbrev pub IsListOf : Holding → List (ℕ × ℕ) → Option (ℕ × OperatingSeen) → Type 0
 IsListOf old list (Some o) = (o.1.stands.entry ≡ Operate o.0) × (o.1.list ≡ list)
 IsListOf old list None = (old.operated ≡ true) × ((more : List BodyView) × IsCensus (old.held ++ more) list)
@@ -62,13 +63,13 @@ IsListOf old list None = (old.operated ≡ true) × ((more : List BodyView) × I
 abbrev pub IsCounted : Holding → CountedSeen → Type 0
 IsCounted old c = IsListOf old c.list c.operated
 
--- A census has such a list, and the receipt of its own Operate; a handshake has none.
+-- A census has such a list and, if it was operated for the list, its own Operate. A handshake has no Operate.
 abbrev pub IsListed : Holding → Driven → WorkedSeen → Type 0
 IsListed old (Handshake n) w = w.operated ≡ None
 IsListed old (Census n list) w = IsListOf old list.items w.operated × IfSome w.operated (λ o. o.0 ≡ n)
 
--- Driving is refused where nothing is open or waits, and then changes nothing; or where there is no memory for the list of the open
--- census, and then all that it takes to operate it is held.
+-- `drive` is refused if no request is open or waits, and nothing changes; or if there is no memory for the list of the
+-- open census, and all bodies that it needs are held.
 abbrev pub drive_refused : Holding → Holding → DriveFault → Type 0
 drive_refused old new QueueEmpty = ((s : State) × (s.opened ≡ []) × (s.waiting ≡ [])) × (new ≡ old)
 drive_refused old new NoMemory = ((s : State) × LacksList s new.held) × HoldsOn old new

@@ -1,4 +1,4 @@
--- What receipts say of a body that went back into its berth.
+-- Receipts of bodies that went back into their berths.
 use Rattle.std.specs.Prelude.{◌≡◌, ℕ}
 use Rattle.std.specs.List.{remove}
 use Rattle.bodies.specs.Bodies.{BodyView}
@@ -7,7 +7,7 @@ use Rattle.berths.specs.declared.room.BodyAct.TheVariants.{Released}
 use Rattle.stopped_threads.specs.Held.{StandsAt}
 use Rattle.stopped_threads.specs.Holding.{Holding}
 
--- The body of the place is held no more, and by the receipt it went into its berth as it was.
+-- The body of the place leaves the held ones. By the receipt it went into its berth unchanged.
 abbrev pub Releases : Holding → Holding → ℕ → Moved → Type 0
 Releases old new place receipt
     = (index : ℕ) × (body : BodyView) × StandsAt old.held index place body × (new ≡ record old { held = remove old.held index })

@@ -1,4 +1,4 @@
-//! That telling is done, as a value: serving takes it, so that all targets are told before any is served.
+//! The evidence that all targets are armed. Serving takes it, so that all targets are armed before any is served.
 ghost use Rattle.std.specs.Prelude.{◌≡◌};
 ghost use Rattle.desk.specs.Fields.{at};
 ghost use Rattle.coordinator_core.specs.Telling.{IsAllTold};
@@ -10,8 +10,8 @@ use std::marker::Model;
 use std::snapshot::Snapshot;
 use stopped_threads::{PollArmer, ServeKey};
 
-/// Each thread that was due for an open request was told all that was open then, by what its place is armed with. It is made where that
-/// is so, and nowhere else. Contracts see the desk then.
+/// Evidence that each thread that was due for an open request was armed for all that was open then. It can be made only
+/// if that holds. Contracts see the desk at that time.
 #[derive(Drop)]
 pub struct AllArmed<N: Name, J: HandshakeOp> {
     seen: Snapshot<Desk<N, J>>,
@@ -32,7 +32,7 @@ impl<N: Name, J: HandshakeOp> Model for AllArmed<N, J> {
 impl<N: Name, J: HandshakeOp> ServeKey for AllArmed<N, J> {}
 
 impl<N: Name, J: HandshakeOp> AllArmed<N, J> {
-    /// By the desk as it was looked at, and the armer now.
+    /// Makes the evidence of the desk at the look and the armer after it.
     #[inline(always)]
     pub fn of(seen: Snapshot<Desk<N, J>>, armer: &PollArmer) -> AllArmed<N, J>
         requires told { IsAllTold (at seen.value) armer.now.seen }

@@ -1,4 +1,4 @@
-//! Operating a census: a list of the codes with their frames, over the published stacks of all live threads, which are held.
+//! Operates a census: counts the frames of each code on the published stacks of all live threads, which are held.
 ghost use Rattle.std.specs.Prelude.{◌≡◌, true, IfOk, IfErr, OnOk};
 ghost use Rattle.bodies.specs.Bodies.{IsPublished};
 ghost use Rattle.bodies.specs.Census.{IsCensus};
@@ -17,9 +17,13 @@ use std::sync::Wait;
 use stopped_threads::{OperateFault, operate_over};
 
 impl<'a, N: Name, J: HandshakeOp> Coordinator<'a, N, J> {
-    /// Operates the open census over the held threads, which must be all that live: publishes the stack of each, counts the frames
-    /// of each code over them, and clears the operation for each. Answers the number of the operation and the counts, a pair of
-    /// serial and frames for each code that has any, rising by serial; with the receipt of its Operate, which shows them.
+    /// Operates the open census over the held threads, which must be all live threads: publishes each stack, counts the
+    /// frames of each code, and clears the operation for each thread. Returns the operation's number; a pair of serial
+    /// and frames for each code with frames, in ascending order of serials; and the receipt of the Operate, which shows
+    /// these counts.
+    ///
+    /// # Errors
+    /// A refusal of the desk, then `NoMemory`.
     pub fn operate<R: Wait>(
         &mut self,
         rt: &R,

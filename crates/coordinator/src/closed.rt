@@ -1,4 +1,4 @@
-//! What a request was, once it is closed.
+//! A closed request, and the evidence of the work on it.
 ghost use Rattle.std.specs.Prelude.{◌≡◌, false, Some, true, IfSome, IfNone};
 ghost use Rattle.operations.specs.declared.Kind.TheVariants as kind;
 ghost use Rattle.desk.specs.declared.entries.Entry.{Entry};
@@ -17,7 +17,7 @@ use operations::Kind;
 use operations::job::HandshakeOp;
 use std::marker::Model;
 
-/// A request was closed. It isn't `Drop`: whoever closes a request answers it.
+/// A closed request. It isn't `Drop`, so the code that closes a request must return it.
 pub struct Closed<N: Name> {
     number: u64,
     receipt: Closing<N>,
@@ -31,7 +31,7 @@ impl<N: Name> Model for Closed<N> {
     ghost view = { λ c. record { number = c.number; shown = c.receipt } };
 }
 
-/// What shows that a request was worked on: the receipt of its Close, and for a census that was operated for it the number and the
+/// The evidence of the work on a request: the receipt of its Close and, if `drive` operated it, its number and the
 /// receipt of its Operate.
 #[derive(Drop)]
 pub struct Worked<N: Name> {
@@ -48,7 +48,7 @@ impl<N: Name> Model for Worked<N> {
 }
 
 impl<N: Name> Worked<N> {
-    /// The receipt of the Close.
+    /// Returns the receipt of the Close.
     pub fn receipt(self) -> Receipt<N>
         ensures { result ≡ self.closing.stands }
     {
@@ -60,7 +60,7 @@ impl<N: Name> Worked<N> {
     }
 }
 
-// Whether the oldest open request has this number, where one is given.
+// Whether the oldest open request has this number, if one is given.
 fn has_number<N: Name, J: HandshakeOp>(desk: &Desk<N, J>, number: Option<u64>) -> bool
     ensures { result ≡ true → IfSome number (λ n.
         number_in (oldest_of (at desk.now).opened) ≡ Some n) }
@@ -73,8 +73,8 @@ fn has_number<N: Name, J: HandshakeOp>(desk: &Desk<N, J>, number: Option<u64>) -
 }
 
 impl<N: Name> Closed<N> {
-    /// Closes the oldest open request where it is of this kind, and of this number where one is given; and gives back its jobs that were
-    /// not taken.
+    /// Closes the oldest open request if it is of this kind, and of this number if one is given. Returns it with the
+    /// jobs that weren't taken.
     pub fn close<J: HandshakeOp>(
         desk: &mut Desk<N, J>,
         held: &[Body<N>],
@@ -99,7 +99,7 @@ impl<N: Name> Closed<N> {
         }
     }
 
-    /// A handshake.
+    /// Returns the closed request as a handshake.
     pub fn handshake(self) -> (Driven, Worked<N>)
         requires { WasOldest kind.Handshake self.number self.shown }
         ensures number { number_of result.0 ≡ self.number }
@@ -115,7 +115,7 @@ impl<N: Name> Closed<N> {
         (Driven::Handshake(number), worked)
     }
 
-    /// A census, with what it counted.
+    /// Returns the closed request as a census, with its counts.
     pub fn census(self, counted: Counted<N>) -> (Driven, Worked<N>)
         requires oldest { WasOldest kind.Census self.number self.shown }
         requires numbered { IfSome counted.operated (λ o. o.0 ≡ self.number) }

@@ -1,4 +1,4 @@
-//! The coordinator: what it keeps, and how it opens and closes requests.
+//! The coordinator: its state, and how it opens and closes requests.
 ghost use Rattle.std.specs.Prelude.{◌≡◌, false, Some, None, IfOk, IfErr, OnOk, IfSome, IfNone, OnSome};
 ghost use Rattle.poll.specs.Rows.{full_armer};
 ghost use Rattle.desk.specs.declared.entries.Entry.{Entry};
@@ -22,11 +22,12 @@ use std::sync::Wait;
 use stopped_threads::{HeldBodies, PollArmer};
 use thread_list::Shared;
 
-/// Works on requests. There is one for what threads share, since it has the one armer. Whoever drops it releases all that it holds before:
-/// a held body that goes with it never comes back, and its thread waits for good.
+/// Works on requests. There is one for each `Shared`, which has only one armer. Release all held threads before you
+/// drop it: a held body that is dropped with it never comes back, and its thread waits forever.
 ///
-/// Contracts see the bodies that it holds in the order in which it took them, what the armer knows, and whether the open census is
-/// operated. Beside that it has room for two lists, which `drive` fills under the desk's lock and goes through without it.
+/// Contracts see the held bodies in the order in which they were taken, the armer's numbers, and whether the open
+/// census is operated. The coordinator also has room for two lists, which `drive` fills under the desk's lock and reads
+/// without it.
 #[derive(Drop)]
 pub struct Coordinator<'a, N: Name, J: HandshakeOp> {
     pub(crate) shared: &'a Shared<N, J>,
@@ -37,7 +38,8 @@ pub struct Coordinator<'a, N: Name, J: HandshakeOp> {
     pub(crate) operated: bool,
     pub(crate) untold: Vec<PendingJob<J>>,
     pub(crate) due: Vec<Live>,
-    /// A bit for each place whose thread had its body when it was told: it comes to a poll, and nobody need look into its berth before.
+    /// A bit for each place whose thread had its body when it was armed. The thread comes to a poll, so there is no
+    /// need to look into its berth before.
     pub(crate) out: u64,
 }
 
@@ -54,8 +56,10 @@ impl<'a, N: Name, J: HandshakeOp> Model for Coordinator<'a, N, J> {
 }
 
 impl<'a, N: Name, J: HandshakeOp> Coordinator<'a, N, J> {
-    /// A coordinator that holds nothing, with the armer that came with what threads share. Where memory is refused the armer comes
-    /// back.
+    /// Makes a coordinator that holds no body, with the armer of this `Shared`.
+    ///
+    /// # Errors
+    /// Memory is refused, and the armer is returned.
     pub fn new(
         shared: &'a Shared<N, J>,
         armer: Armer,
@@ -69,7 +73,7 @@ impl<'a, N: Name, J: HandshakeOp> Coordinator<'a, N, J> {
         let Ok(untold) = Vec::with_capacity(alloc, places) else {
             return Err(armer);
         };
-        // Where it is full, there may be more than it has room for.
+        // One more than `places`: a full list means that more threads may be due.
         let Ok(due) = Vec::with_capacity(alloc, places.saturating_add(1)) else {
             return Err(armer);
         };
@@ -87,7 +91,8 @@ impl<'a, N: Name, J: HandshakeOp> Coordinator<'a, N, J> {
         })
     }
 
-    /// Opens the oldest request. Answers the number of the operation, with the receipt of its Open.
+    /// Opens the oldest waiting request. Returns the operation's number and the receipt of its Open. Refusals in the
+    /// order of `OpenFault`.
     pub fn open<R: Wait>(&mut self, rt: &R) -> Result<(u64, Receipt<N>), OpenFault>
         ensures opened { IfOk result (λ r. r.1.entry ≡ Entry.Open r.0) }
         ensures refused { IfErr result (λ e. (s : DeskState) × open_refused s e) }
@@ -98,8 +103,8 @@ impl<'a, N: Name, J: HandshakeOp> Coordinator<'a, N, J> {
         Ok(opened)
     }
 
-    /// Closes the oldest open request, and drops the jobs of targets that are gone. Answers the number of the operation, with the
-    /// receipt of its Close, which shows that it was the oldest.
+    /// Closes the oldest open request, and drops the jobs of targets that are gone. Returns the operation's number and
+    /// the receipt of its Close, which shows that it was the oldest. Refusals in the order of `CloseFault`.
     pub fn close<R: Wait>(&mut self, rt: &R) -> Result<(u64, Closing<N>), CloseFault>
         ensures closed { IfOk result (λ r. (r.1.stands.entry ≡ Entry.Close r.0)
             × MayClose self.old None r.0) }
@@ -110,7 +115,8 @@ impl<'a, N: Name, J: HandshakeOp> Coordinator<'a, N, J> {
         self.close_chosen(rt, None)
     }
 
-    /// Closes the open request of the number, and drops the jobs of targets that are gone.
+    /// Closes the open request of this number, and drops the jobs of targets that are gone. Returns the receipt of its
+    /// Close. Refusals in the order of `CloseFault`.
     pub fn close_of<R: Wait>(&mut self, rt: &R, number: u64) -> Result<Closing<N>, CloseFault>
         ensures closed { IfOk result (λ r. (r.stands.entry ≡ Entry.Close number)
             × MayClose self.old (Some number) number) }
@@ -160,7 +166,7 @@ impl<'a, N: Name, J: HandshakeOp> Coordinator<'a, N, J> {
         Ok((op, receipt))
     }
 
-    // Closes the oldest open request where it is of this kind, and of this number where one is given.
+    // Closes the oldest open request if it is of this kind, and of this number if one is given.
     pub(crate) fn close_kind<R: Wait>(
         &mut self,
         rt: &R,

@@ -1,11 +1,11 @@
-//! What a census counted.
+//! The counts of a census.
 ghost use Rattle.std.specs.Prelude.{◌≡◌, ℕ, IfSome};
 
 use bodies::Name;
 use desk::Operating;
 use std::marker::Model;
 
-/// The list of a census, with its number and the receipt of its Operate; without them where the caller had operated it.
+/// The list of a census, with its number and the receipt of its Operate, unless the caller had operated it.
 #[derive(Drop)]
 pub struct Counted<N: Name> {
     pub(crate) list: Vec<(u64, u32)>,
@@ -21,7 +21,7 @@ impl<N: Name> Model for Counted<N> {
 }
 
 impl<N: Name> Counted<N> {
-    /// The number, where it was operated for this list: a request of that number is the census.
+    /// Returns the number of the census if it was operated for this list.
     pub fn number(&self) -> Option<u64>
         ensures { (m : ℕ) → IfSome result (λ n. m ≡ n) → IfSome self.now.operated (λ o. o.0 ≡ m) }
     {

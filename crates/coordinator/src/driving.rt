@@ -1,4 +1,4 @@
-//! Working one request from its Open to its Close: how it begins, and how all that is held goes back.
+//! Works on one request from its Open to its Close: how it begins, and how all held bodies go back.
 ghost use Rattle.std.specs.Prelude.{◌≡◌, [], Some, IfOk, OnOk, IfErr, IfSome, IfNone, OnSome, false, length};
 ghost use Rattle.desk.specs.declared.entries.Entry.{Entry};
 ghost use Rattle.desk.specs.Machine.{State as DeskState};
@@ -22,13 +22,18 @@ use stopped_threads::HeldBodies;
 use thread_list::Shared;
 
 impl<'a, N: Name, J: HandshakeOp> Coordinator<'a, N, J> {
-    /// Works the oldest open request, or where nothing is open the oldest that waits, to its Close: tells all targets before it serves
-    /// any, and of a handshake holds one thread at a time. Answers what it was, with the receipt of its Close and, of a census, that of
-    /// its Operate, which show it; nothing is held then.
-    /// Where several are open, it tells all of them and closes the oldest alone. At no place does the number that was armed last fall.
+    /// Works on the oldest open request or, if none is open, on the oldest waiting one, until it is closed. It arms all
+    /// targets before it serves any, and in a handshake holds one thread at a time. Returns the request, with the
+    /// receipts that show it: of its Close and, for a census, of its Operate. Nothing is held then.
+    /// If several requests are open, it arms the targets of all and closes only the oldest. No place's last armed
+    /// number falls.
     ///
-    /// A census whose list finds no memory stays open, its threads told and held, and the next `drive` goes on with it. Where the
-    /// caller has operated the census, the list is over the threads that are still held, and the caller has the receipt of the Operate.
+    /// If the caller has operated the census, the list is over the threads that are still held, and the caller has the
+    /// receipt of the Operate.
+    ///
+    /// # Errors
+    /// `QueueEmpty`, then `NoMemory`. After `NoMemory` the census stays open, its threads stay armed and held, and the
+    /// next `drive` continues with it.
     pub fn drive<R: Wait>(&mut self, rt: &R) -> Result<(Driven, Worked<N>), DriveFault>
         ensures closed { IfOk result (λ r.
             r.1.closing.stands.entry ≡ Entry.Close (number_of r.0)) }
@@ -48,8 +53,8 @@ impl<'a, N: Name, J: HandshakeOp> Coordinator<'a, N, J> {
         }
     }
 
-    // Opens the oldest request where nothing is open, and tells all targets of what is open. Answers which kind that is; None where
-    // nothing is open and nothing waits.
+    // Opens the oldest waiting request if none is open, and arms all targets of the open requests. Returns their kind.
+    // None if no request is open or waits.
     #[inline(always)]
     pub(crate) fn begin<R: Wait>(&mut self, rt: &R) -> Option<(Kind, AllArmed<N, J>)>
         ensures empty { IfNone result ((self.new ≡ self.old)
@@ -61,8 +66,8 @@ impl<'a, N: Name, J: HandshakeOp> Coordinator<'a, N, J> {
         Some((kind, self.tell_on(rt, listed)))
     }
 
-    // Opens the oldest request where nothing is open, and lists what is to be told under the same hold of the desk's lock. Answers which
-    // kind is open, and what was listed.
+    // Opens the oldest waiting request if none is open, and lists the pending operations under the same hold of the
+    // desk's lock. Returns the kind of the open requests, and the list.
     fn open_listed<R: Wait>(&mut self, rt: &R) -> Option<(Kind, Listed<N, J>)>
         ensures places { OnSome result (length self.new.armer.armed ≡ N.board.places) }
         ensures listed { IfSome result (λ r. IsListing self.new.armer r.1) }
@@ -77,7 +82,7 @@ impl<'a, N: Name, J: HandshakeOp> Coordinator<'a, N, J> {
         Some((kind, self.list_from(&mut desk)))
     }
 
-    // Lists each thread that is due for an open request, or for the oldest of them alone, under one hold of the desk's lock.
+    // Lists the threads that are due for an open request, or only for the oldest, under one hold of the desk's lock.
     pub(crate) fn list_due<R: Wait>(&mut self, rt: &R, of_oldest: bool)
         ensures { self.new ≡ self.old }
     {
@@ -86,7 +91,7 @@ impl<'a, N: Name, J: HandshakeOp> Coordinator<'a, N, J> {
         desk.list_due(of_oldest, &mut self.due);
     }
 
-    // Brings all held bodies back. At the start of a handshake there are none mostly, and nothing is called.
+    // Puts all held bodies back. At the start of a handshake there are mostly none, and nothing is called.
     pub(crate) fn release_all<R: Wait>(&mut self, rt: &R)
         ensures { self.new ≡ record self.old { held = [] } }
     {
@@ -98,8 +103,8 @@ impl<'a, N: Name, J: HandshakeOp> Coordinator<'a, N, J> {
     }
 }
 
-/// Brings the bodies back into their berths, and wakes nobody yet: who is woken may take this very processor. Answers those that wait
-/// there.
+/// Puts the bodies back into their berths, but wakes nobody yet: a woken thread may take this very processor. Returns
+/// the threads that wait at these berths.
 pub fn put_back<N: Name, J: HandshakeOp, R: Wait>(
     rt: &R,
     shared: &Shared<N, J>,

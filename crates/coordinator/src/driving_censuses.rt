@@ -1,4 +1,4 @@
-//! Holding all live threads, and operating and closing the open census over them.
+//! Holds all live threads, and operates and closes the open census over them.
 ghost use Rattle.std.specs.Prelude.{◌≡◌, ◌<◌, [], false, None, IfOk, IfErr, OnOk, OnErr, IfSome, IfNone};
 ghost use Rattle.bodies.specs.Census.{IsCensus};
 ghost use Rattle.operations.specs.declared.Kind.TheVariants as kind;
@@ -23,11 +23,11 @@ use std::sync::Wait;
 use std::{hint, thread};
 use stopped_threads::OperateFault;
 
-// How often a census looks into berths for bodies that aren't there before it sleeps.
+// How many looks into berths for absent bodies a census makes before it sleeps.
 const LOOKS: u32 = 128;
 
-// After how many of these for one thread it yields between them, where it pauses before: that thread may wait for this very processor,
-// and each that has stopped leaves its own.
+// After this many looks for one thread the census yields between looks, and before that it pauses. That thread may wait
+// for this very processor, and each thread that has stopped leaves its own.
 const QUICK: u32 = 4;
 
 const PAUSE: u32 = 16;
@@ -38,7 +38,8 @@ fn pause() {
     }
 }
 
-/// How the coordinator waits for a body that isn't in its berth: it looks for it as often as looks are left, or sleeps until it is there.
+/// How the coordinator waits for a body that isn't in its berth: with looks while any are left, or asleep until the
+/// body is there.
 #[derive(Drop)]
 pub enum CensusWait {
     Looking(Looks),
@@ -46,7 +47,7 @@ pub enum CensusWait {
 }
 
 impl<'a, N: Name, J: HandshakeOp> Coordinator<'a, N, J> {
-    // Holds all live threads, operates the open census over them, brings them back and closes it.
+    // Holds all live threads, operates the open census over them, puts their bodies back and closes the census.
     pub(crate) fn drive_census<R: Wait>(
         &mut self,
         rt: &R,
@@ -71,7 +72,7 @@ impl<'a, N: Name, J: HandshakeOp> Coordinator<'a, N, J> {
         Ok(closed.census(counted))
     }
 
-    // Closes the open census, of this number where one is given, and wakes those that wait at berths.
+    // Closes the open census, of this number if one is given, and wakes the threads that wait at berths.
     fn close_census<R: Wait>(
         &mut self,
         rt: &R,
@@ -94,7 +95,7 @@ impl<'a, N: Name, J: HandshakeOp> Coordinator<'a, N, J> {
         }
     }
 
-    // Closes the open census after a try that failed: other threads run before each further one.
+    // Closes the open census after a failed try. Other threads run before each further try.
     fn close_again<R: Wait>(&mut self, rt: &R, number: Option<u64>) -> Closed<N>
         requires free { self.old.held ≡ [] }
 
@@ -113,8 +114,9 @@ impl<'a, N: Name, J: HandshakeOp> Coordinator<'a, N, J> {
         unreachable!()
     }
 
-    // Holds all live threads and operates the open census over them: mostly they are those that telling listed. None where there is no
-    // memory for its list. Nobody else operates a census: where the desk says that it is done, it was done by this coordinator.
+    // Holds all live threads, mostly those that were listed for arming, and operates the open census over them. None if
+    // there is no memory for its list. Nobody else operates a census: if the desk says that it is done, this
+    // coordinator has done it.
     fn counted<R: Wait>(&mut self, rt: &R) -> Option<Counted<N>>
         ensures counted { IfSome result (IsCounted self.old) }
         ensures lacks { IfNone result ((s : DeskState) × LacksList s self.new.held) }
@@ -140,7 +142,7 @@ impl<'a, N: Name, J: HandshakeOp> Coordinator<'a, N, J> {
         unreachable!()
     }
 
-    // The list of the operated census, over the threads that are still held.
+    // The list of the operated census over the threads that are still held.
     fn list_again(&self) -> Option<Counted<N>>
         ensures { IfSome result (λ c. IsCensus self.now.held c.list × (c.operated ≡ None)) }
     {
@@ -153,7 +155,6 @@ impl<'a, N: Name, J: HandshakeOp> Coordinator<'a, N, J> {
         }
     }
 
-    // Holds each thread that is due.
     fn hold_all<R: Wait>(&mut self, rt: &R)
         ensures { HoldsOn self.old self.new }
     {
@@ -161,7 +162,7 @@ impl<'a, N: Name, J: HandshakeOp> Coordinator<'a, N, J> {
         self.hold_listed(rt, CensusWait::Asleep);
     }
 
-    // Holds the threads that are listed. One that exited before it was told doesn't come.
+    // Holds the listed threads. A thread that exited before it was armed doesn't come.
     fn hold_listed<R: Wait>(&mut self, rt: &R, waiting: CensusWait)
         ensures { HoldsOn self.old self.new }
     {
@@ -175,7 +176,7 @@ impl<'a, N: Name, J: HandshakeOp> Coordinator<'a, N, J> {
         }
     }
 
-    // Takes the body of a thread out of its berth, where it isn't held.
+    // Takes a thread's body out of its berth, unless it is held.
     fn hold_due<R: Wait>(&mut self, rt: &R, due: Live, waiting: &mut CensusWait)
         ensures { HoldsOn self.old self.new }
     {
@@ -190,7 +191,7 @@ impl<'a, N: Name, J: HandshakeOp> Coordinator<'a, N, J> {
         }
     }
 
-    // Takes the body of a thread out of its berth as soon as it is there: looks for it as often as looks are left.
+    // Takes a thread's body out of its berth once it is there, and looks for it while looks are left.
     fn look_for<R: Wait>(&mut self, rt: &R, due: Live, looks: &mut Looks)
         requires place { due.place < N.board.places }
         requires apart { is_held due.place self.old.held ≡ false }

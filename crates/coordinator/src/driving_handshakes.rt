@@ -1,4 +1,4 @@
-//! Serving the targets of open handshakes, one at a time, until the oldest is closed.
+//! Serves the targets of open handshakes, one at a time, until the oldest handshake is closed.
 ghost use Rattle.std.specs.Prelude.{◌≡◌, ◌⊎◌, ◌<◌, ◌≤◌, ◌-◌, ℕ, [], true, false, min, IfOk, IfErr};
 ghost use Rattle.desk.specs.declared.entries.Entry.{Entry};
 ghost use Rattle.desk.specs.Machine.{State as DeskState};
@@ -23,15 +23,16 @@ use std::hint;
 use std::sync::Wait;
 use stopped_threads::{BodyInService, ServeReceipt};
 
-// How often the passes of a `drive` look at poll words without a lock before they sleep.
+// How many looks at poll words the passes of a `drive` make, without a lock, before they sleep.
 const SPINS: u32 = 500;
 
-// How often of these for one thread, which is longer than a thread takes to its next poll: one that didn't come there may wait for
-// this very processor. It doesn't yield instead: a thread that has served itself may run on there for its slice.
+// How many of these looks are for one thread. They take longer than a thread takes to its next poll: if it didn't come,
+// it may wait for this very processor. The coordinator doesn't yield instead, since a thread that has served itself may
+// then run there for its slice.
 const PATIENCE: u32 = 250;
 
-/// The passes over the targets that are due, once all are told: the first over those that telling listed, each further one over those
-/// that are due for the oldest open request.
+/// The passes over the due targets, after all are armed. The first pass is over the targets that were listed for
+/// arming, each further one over those that are due for the oldest open request.
 #[derive(Drop)]
 pub struct Passes<N: Name, J: HandshakeOp> {
     told: AllArmed<N, J>,
@@ -40,7 +41,7 @@ pub struct Passes<N: Name, J: HandshakeOp> {
 }
 
 impl<N: Name, J: HandshakeOp> Passes<N, J> {
-    /// No pass is made, and no look spent.
+    /// Makes `Passes` before the first pass, with all looks left.
     pub fn new(told: AllArmed<N, J>) -> Passes<N, J>
         ensures told { result.told ≡ told }
         ensures looks { result.looks ≡ 500 }
@@ -54,14 +55,15 @@ impl<N: Name, J: HandshakeOp> Passes<N, J> {
     }
 }
 
-/// What came of a target whose body was in its berth: it was served, or had no job, since its thread has served itself.
+/// The result for a target whose body was in its berth: it was served, or had no job, since its thread has served
+/// itself.
 #[derive(Drop)]
 pub enum TryServed<N: Name> {
     Served(ServeReceipt<N>),
     Idle(BerthReceipt<N>),
 }
 
-// The number of the oldest open request where the thread of the name is due for that.
+// The number of the oldest open request, if the named thread is due for it.
 fn awaited_of<N: Name, J: HandshakeOp>(desk: &Desk<N, J>, name: u64) -> Option<u64>
     ensures { result ≡ awaited (at desk.now) name }
 {
@@ -98,7 +100,7 @@ impl<'a, N: Name, J: HandshakeOp> Coordinator<'a, N, J> {
         unreachable!()
     }
 
-    // Makes a pass: serves each target that is due, in the order of their names.
+    // Makes a pass: serves each due target, in the order of names.
     pub(crate) fn serve_pass<R: Wait>(&mut self, rt: &R, passes: &mut Passes<N, J>)
         ensures same { self.new ≡ self.old }
         ensures told { passes.new.told ≡ passes.old.told }
@@ -112,8 +114,7 @@ impl<'a, N: Name, J: HandshakeOp> Coordinator<'a, N, J> {
         passes.is_first = false;
     }
 
-    // Serves each that was listed, in the pass that is made: at once where its body is in its berth, and else it waits for it. Only looks
-    // are spent.
+    // Serves each listed target: at once if its body is in its berth, otherwise after a wait.
     fn serve_listed<R: Wait>(&self, rt: &R, passes: &mut Passes<N, J>)
         ensures pass { (passes.new.told ≡ passes.old.told)
             × (passes.new.is_first ≡ passes.old.is_first) }
@@ -130,10 +131,10 @@ impl<'a, N: Name, J: HandshakeOp> Coordinator<'a, N, J> {
         }
     }
 
-    // Waits for a target whose body isn't in its berth: without a lock as far as the looks that are left go, since a lock that it took
-    // then the thread would wait for, and then, where the oldest open request is of it, asleep until its body is there. A target that
-    // comes for what it was told serves itself, and is waited for only in a further pass: what another runs until then may wait for
-    // those that come after it.
+    // Waits for a target whose body isn't in its berth. While looks are left it waits without a lock, since the thread
+    // would have to wait for that lock. Then, if the target is due for the oldest open request, it sleeps until the
+    // body is there. A target that comes to its armed poll serves itself. Only a further pass waits for that: what the
+    // target runs may wait for targets later in this pass.
     #[inline(never)]
     fn wait_then_serve<R: Wait>(&self, rt: &R, passes: &mut Passes<N, J>, who: Live)
         requires { who.place < N.board.places }
@@ -160,8 +161,8 @@ impl<'a, N: Name, J: HandshakeOp> Coordinator<'a, N, J> {
         }
     }
 
-    // Whether nothing is armed at the place any more: looks as often as patience and the looks that are left go, and uses up all where
-    // something is armed still.
+    // Looks at the place's poll word until it is clear, as often as patience and the looks left allow. Returns whether
+    // it is clear. If it isn't, no looks are left.
     fn spin_until_clear(&self, place: usize, looks: &mut Looks) -> bool
         ensures came { result ≡ true → (made : ℕ) × (made < min looks.old 250)
             × (looks.new ≡ looks.old - made) }
@@ -178,7 +179,7 @@ impl<'a, N: Name, J: HandshakeOp> Coordinator<'a, N, J> {
         false
     }
 
-    // The number of the oldest open request where the thread of the name is due for that.
+    // The number of the oldest open request, if the named thread is due for it.
     fn awaited<R: Wait>(&self, rt: &R, name: u64) -> Option<u64>
         ensures { (s : DeskState) × (result ≡ awaited s name) }
     {
@@ -186,8 +187,8 @@ impl<'a, N: Name, J: HandshakeOp> Coordinator<'a, N, J> {
         awaited_of(&desk, name)
     }
 
-    // Serves a target where its body is in its berth: takes it out with its oldest job, serves all its jobs in order, and brings it back.
-    // The error is the receipt that it isn't there.
+    // Serves a target if its body is in its berth: takes the body out with its oldest job, serves all its jobs in
+    // order, and puts the body back. The error is the receipt that the body isn't there.
     #[inline(always)]
     fn try_serve<R: Wait>(
         &self,

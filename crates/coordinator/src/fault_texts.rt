@@ -1,4 +1,4 @@
-//! What the faults of driving say of themselves.
+//! The texts of the faults of driving.
 use crate::faults::DriveFault;
 use std::error::Error;
 use std::fmt;

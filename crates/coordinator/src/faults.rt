@@ -1,8 +1,8 @@
-//! What driving a request answers, and why it is refused. What the other calls answer is of `stopped_threads`.
+//! The results of driving a request, and its faults. `stopped_threads` has those of the other calls.
 ghost use Rattle.std.specs.Prelude.{◌≡◌};
 ghost use Rattle.coordinator.specs.Driving.{number_of};
 
-/// The request that was worked on: a handshake, or a census with what it counted, a pair of serial and frames for each code.
+/// The request that was worked on: a handshake, or a census with a pair of serial and frames for each code.
 #[derive(Drop)]
 pub enum Driven {
     Handshake(u64),
@@ -10,7 +10,7 @@ pub enum Driven {
 }
 
 impl Driven {
-    /// The number of the operation.
+    /// Returns the number of the operation.
     pub fn number(&self) -> u64
         ensures { result ≡ number_of self.now }
     {
@@ -21,11 +21,11 @@ impl Driven {
     }
 }
 
-/// Why no request was worked on to its Close.
+/// Why `drive` closed no request.
 #[derive(Drop, Clone, Copy, PartialEq, Eq, Debug)]
 pub enum DriveFault {
-    /// Nothing is open and nothing waits.
+    /// No request is open or waits.
     QueueEmpty,
-    /// There is no memory for the list of a census. The request stays open, and the next `drive` goes on with it.
+    /// There is no memory for the list of a census. The census stays open, and the next `drive` continues with it.
     NoMemory,
 }

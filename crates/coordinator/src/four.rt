@@ -1,4 +1,4 @@
-//! Working up to four handshakes at once, from their Opens to their Closes.
+//! Works on up to four handshakes at once, from their Opens to their Closes.
 ghost use Rattle.std.specs.Prelude.{◌≡◌, [], false, IfErr, OnOk};
 ghost use Rattle.stopped_threads.specs.Holding.{ArmsOn};
 ghost use Rattle.coordinator.specs.Driving.{drive_refused};
@@ -14,10 +14,12 @@ use operations::job::HandshakeOp;
 use std::sync::Wait;
 
 impl<'a, N: Name, J: HandshakeOp> Coordinator<'a, N, J> {
-    /// Works up to four handshakes at once, or one census, to their Closes: opens all that may be opened beside those that are open,
-    /// tells all their targets, and serves and closes until nothing is open. Answers how many were closed; nothing is held then.
+    /// Works on up to four handshakes at once, or on one census, until nothing is open: opens all that may be open
+    /// together, arms all their targets, serves and closes. Returns the number of closed requests. Nothing is held
+    /// then.
     ///
-    /// It is refused as `drive` is. A census whose list finds no memory stays open, its threads told and held.
+    /// # Errors
+    /// As `drive`. After `NoMemory` the census stays open, and its threads stay armed and held.
     pub fn drive_four<R: Wait>(&mut self, rt: &R) -> Result<u32, DriveFault>
         ensures free { OnOk result ((self.new.held ≡ []) × (self.new.operated ≡ false)) }
         ensures refused { IfErr result (drive_refused self.old self.new) }
@@ -36,7 +38,7 @@ impl<'a, N: Name, J: HandshakeOp> Coordinator<'a, N, J> {
         }
     }
 
-    // Opens what may be opened.
+    // Opens all requests that may be opened.
     fn open_all<R: Wait>(&mut self, rt: &R)
         ensures { self.new ≡ self.old }
     {
@@ -47,7 +49,7 @@ impl<'a, N: Name, J: HandshakeOp> Coordinator<'a, N, J> {
         }
     }
 
-    // Serves the targets, pass by pass, until nothing is open. Answers how many were closed.
+    // Serves the targets, pass by pass, until nothing is open. Returns the number of closed requests.
     fn drive_handshakes<R: Wait>(&mut self, rt: &R, told: AllArmed<N, J>) -> u32
         ensures free { (self.new.held ≡ []) × (self.new.operated ≡ false) }
         ensures armer { self.new.armer ≡ self.old.armer }

@@ -1,4 +1,4 @@
-//! Holding a thread: the coordinator takes its body out of its berth, and brings it back.
+//! Holds a thread, by taking its body out of its berth, and releases it.
 ghost use Rattle.std.specs.Prelude.{◌≡◌, ◌≢◌, ◌<◌, ◌++◌, ◌∷◌, [], false, IfSome, IfNone, IfOk, IfErr};
 ghost use Rattle.berths.specs.Berths.{Went, acted};
 ghost use Rattle.stopped_threads.specs.Held.{is_held};
@@ -13,7 +13,8 @@ use operations::job::HandshakeOp;
 use std::sync::Wait;
 use stopped_threads::{HoldFault, ReleaseFault, hold_fault_at};
 
-/// Why a thread isn't held: by a fault that was found before, or since it isn't safe, by the receipt that its body isn't in its berth.
+/// Why a thread isn't held: a fault that was found first, or the receipt that its body isn't in its berth, so that it
+/// isn't safe.
 #[derive(Drop)]
 pub enum Unheld<N: Name> {
     Fault(HoldFault),
@@ -21,8 +22,8 @@ pub enum Unheld<N: Name> {
 }
 
 impl<'a, N: Name, J: HandshakeOp> Coordinator<'a, N, J> {
-    /// Holds the thread of a place, which was told an open request and isn't done with it: takes its body out of its berth. Answers
-    /// the receipt of that.
+    /// Holds the thread of a place that was armed for an open request and isn't done with it: takes its body out of its
+    /// berth. Returns the receipt of that. Refusals in the order of `HoldFault`.
     pub fn hold<R: Wait>(&mut self, rt: &R, place: usize) -> Result<BodyReceipt<N>, HoldFault>
         ensures held { IfOk result (Holds self.old self.new place) }
         ensures refused { IfErr result (λ e. hold_refused self.old N.board.places place e
@@ -35,8 +36,8 @@ impl<'a, N: Name, J: HandshakeOp> Coordinator<'a, N, J> {
         }
     }
 
-    // Holds the thread, or answers its berth's receipt where it isn't safe. The berth's lock comes after the desk's: where the thread got
-    // done between the two, its berth tells that nothing is told to it, and the desk is asked again.
+    // Holds the thread, or returns its berth's receipt if it isn't safe. The berth's lock is taken after the desk's. If
+    // the thread got done between the two, its berth has no job or mark, and the desk is asked again.
     fn take_safe<R: Wait>(&mut self, rt: &R, place: usize) -> Result<BodyReceipt<N>, Unheld<N>>
         ensures held { IfOk result (Holds self.old self.new place) }
         ensures refused { IfErr result (λ e. IsUnheld self.old N.board.places place e
@@ -50,7 +51,7 @@ impl<'a, N: Name, J: HandshakeOp> Coordinator<'a, N, J> {
         unreachable!()
     }
 
-    // One try. None where the body is in its berth and nothing is told to its thread.
+    // One try. None if the body is in its berth, without a job or mark.
     fn try_take<R: Wait>(
         &mut self,
         rt: &R,
@@ -74,7 +75,7 @@ impl<'a, N: Name, J: HandshakeOp> Coordinator<'a, N, J> {
         }
     }
 
-    // Holds the thread of the name where its body is in its berth and something is told to it; the error is the berth's receipt.
+    // Holds the named thread if its body is in its berth, with a job or mark. The error is the berth's receipt.
     #[inline(always)]
     pub(crate) fn hold_here<R: Wait>(
         &mut self,
@@ -91,7 +92,7 @@ impl<'a, N: Name, J: HandshakeOp> Coordinator<'a, N, J> {
         self.bodies.hold(rt, self.shared, name, place)
     }
 
-    // The name of the thread of a place that may be held as far as the desk goes and isn't held, or why there is none.
+    // The name of the thread at the place, if the desk lets it be held and it isn't held; or the refusal.
     fn holdable<R: Wait>(&self, rt: &R, place: usize) -> Result<u64, HoldFault>
         ensures may { IfOk result (λ name. (place < N.board.places) × MayHold self.now place name) }
         ensures refused { IfErr result (λ e. hold_refused self.now N.board.places place e
@@ -116,7 +117,7 @@ impl<'a, N: Name, J: HandshakeOp> Coordinator<'a, N, J> {
         Ok(name)
     }
 
-    // Why a place has no held thread: there is no such place, no live thread has it, or its thread isn't held.
+    // Why a place has no held thread.
     pub(crate) fn unheld<R: Wait>(&self, rt: &R, place: usize) -> ReleaseFault
         ensures { HasNoHeld N.board.places place result }
     {
@@ -132,7 +133,8 @@ impl<'a, N: Name, J: HandshakeOp> Coordinator<'a, N, J> {
         }
     }
 
-    /// Brings the body of a held thread back into its berth. Answers the receipt that it is there.
+    /// Puts the body of a held thread back into its berth, and returns the receipt. Refusals in the order of
+    /// `ReleaseFault`.
     pub fn release<R: Wait>(&mut self, rt: &R, place: usize) -> Result<BodyReceipt<N>, ReleaseFault>
         ensures released { IfOk result (Releases self.old self.new place) }
         ensures refused { IfErr result (λ e. (is_held place self.old.held ≡ false)

@@ -1,10 +1,12 @@
-//! The coordinator of a running system: it opens requests, tells, holds and serves threads, operates censuses, closes, and reclaims codes.
-//! A runtime's coordinator thread calls it, through `meqzhuly`; `workers` runs scripts by it.
+//! The coordinator of a running system: it opens requests, arms, holds and serves threads, operates censuses, closes
+//! requests, and reclaims codes. The coordinator thread of a runtime calls it through `meqzhuly`, and `workers` runs
+//! scripts with it.
 //! Read `src/coordinator.rt` first, then `src/driving.rt`, `specs/Driving.antt` and `docs/running/API.md`.
 //!
-//! `open`, `tell`, `hold`, `serve`, `operate`, `release`, `close` and `close_of` are a step of a request each; `drive` works one request
-//! from its Open to its Close, and `drive_four` up to four handshakes at once; `reclaim` does all that it takes to free a code.
-//! `docs/running/DESIGN.md` says which lock each call takes. No call holds two locks.
+//! Each of `open`, `tell`, `hold`, `serve`, `operate`, `release`, `close` and `close_of` is a step of a request.
+//! `drive` works on one request from its Open to its Close, and `drive_four` on up to four handshakes at once.
+//! `reclaim` does all steps that free a code. `docs/running/DESIGN.md` says which lock each call takes. No call holds
+//! two locks.
 #![tactic(auto)]
 
 mod all_armed;

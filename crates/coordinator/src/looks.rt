@@ -1,9 +1,9 @@
-//! How often the coordinator looks for something before it does otherwise.
+//! How many looks the coordinator makes for something before it waits in another way.
 ghost use Rattle.std.specs.Prelude.{◌≡◌, ◌-◌, min};
 
 use std::marker::Model;
 
-/// So many looks may still be made. Contracts see the number.
+/// The number of looks left. Contracts see it.
 #[derive(Drop)]
 pub struct Looks {
     left: u32,
@@ -24,7 +24,7 @@ impl Looks {
         Looks { left }
     }
 
-    /// How many may be made in one place, where patience ends after so many.
+    /// Returns how many looks may be made in one place, at most `patience`.
     #[inline(always)]
     pub fn up_to(&self, patience: u32) -> u32
         ensures { result ≡ min self.now patience }
@@ -36,7 +36,7 @@ impl Looks {
         }
     }
 
-    /// So many were made.
+    /// Takes off the looks that were made.
     #[inline(always)]
     pub fn spend(&mut self, made: u32)
         ensures { self.new ≡ self.old - made }
@@ -44,7 +44,7 @@ impl Looks {
         self.left = self.left.saturating_sub(made);
     }
 
-    /// No more may be made.
+    /// Leaves no look.
     #[inline(always)]
     pub fn end(&mut self)
         ensures { self.new ≡ 0 }

@@ -1,4 +1,4 @@
-//! Reclaiming a code that isn't entrant.
+//! Reclaims a code that is not entrant.
 ghost use Rattle.std.specs.Prelude.{◌≡◌, ◌≢◌, ◌<◌, [], false, None, length, IfOk, OnOk, IfErr, OnErr, IfSome};
 ghost use Rattle.stopped_threads.specs.Holding.{ArmsOn};
 ghost use Rattle.stopped_threads.specs.Reclaiming.{IsReclaimed};
@@ -19,7 +19,7 @@ use std::sync::Wait;
 use std::thread;
 use stopped_threads::Reclaimed;
 
-// A handshake of the targets of the jobs, with the ask of the first.
+// The handshake of the jobs' targets, with the ask of the first job.
 fn request_of<J: HandshakeOp>(alloc: Global, jobs: &[J]) -> Result<Option<Request>, AllocError>
     ensures ok { IfOk result (λ r. r ≡ request_of J.whom J.asks jobs.now) }
     ensures err { OnErr result (0 < length jobs.now) }
@@ -40,7 +40,8 @@ fn request_of<J: HandshakeOp>(alloc: Global, jobs: &[J]) -> Result<Option<Reques
     }))
 }
 
-// Why a code isn't reclaimed where there is no memory for the handshake's targets: what the desk's first step would answer with them.
+// Why a code isn't reclaimed if there is no memory for the handshake's targets: the refusal of the desk's first step
+// with them.
 fn fault_without_memory<N: Name, J: HandshakeOp>(
     desk: &Desk<N, J>,
     serial: u64,
@@ -63,11 +64,12 @@ fn fault_without_memory<N: Name, J: HandshakeOp>(
 }
 
 impl<'a, N: Name, J: HandshakeOp> Coordinator<'a, N, J> {
-    /// Reclaims a code that isn't entrant: makes a round and a handshake of the jobs' targets with the jobs, where there are any,
-    /// looks at each place once the handshake is closed, and weighs the code. Where no activation stands it is freed.
+    /// Reclaims a code that is not entrant: makes a round and, if there are jobs, a handshake of their targets; looks
+    /// at each place after the handshake is closed; and weighs the code. A code without activations is freed.
     ///
-    /// It is refused in its first step alone, with the jobs handed back and nothing changed: by the first test in order that refuses it,
-    /// also where memory is short, and for want of memory only where none does.
+    /// # Errors
+    /// Only the first step is refused. Nothing changes, and the jobs are returned. The first test that fails decides,
+    /// even if memory is short, and `NoMemory` comes last.
     pub fn reclaim<R: Wait>(
         &mut self,
         rt: &R,
@@ -94,7 +96,7 @@ impl<'a, N: Name, J: HandshakeOp> Coordinator<'a, N, J> {
         Ok(shaken.end(said))
     }
 
-    // The first step: the round, and the request waits, where there are jobs.
+    // The first step: makes the round and, if there are jobs, queues the request.
     fn ask<R: Wait>(
         &self,
         rt: &R,
@@ -121,7 +123,7 @@ impl<'a, N: Name, J: HandshakeOp> Coordinator<'a, N, J> {
         Ok(begun)
     }
 
-    // Works the handshake that waits to its Close, where there is one.
+    // Works on the waiting handshake until it is closed, if there is one.
     fn shake<R: Wait>(&mut self, rt: &R, begun: RoundDone<N, J>) -> HandshakeClosed<N, J>
         ensures begun { result.begun ≡ begun }
         ensures closed { IsClosed result.begun.asked result.closed }
@@ -155,7 +157,8 @@ impl<'a, N: Name, J: HandshakeOp> Coordinator<'a, N, J> {
         unreachable!()
     }
 
-    // Looks at each place and weighs the code behind the handshake, again where it isn't as the first step found it.
+    // Looks at each place and weighs the code, as soon as the handshake is closed at the desk and the code can be
+    // weighed.
     fn weigh<R: Wait>(&self, rt: &R, serial: u64, shaken: &HandshakeClosed<N, J>) -> Reclaimed<N>
         ensures { IsReclaimedBehind shaken.now.begun.asked N.board.places serial result }
     {

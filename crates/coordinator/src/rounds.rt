@@ -1,5 +1,5 @@
-//! The steps of a reclaiming before its weighing, as values: only its step makes each, and the next takes it. So the code is weighed behind
-//! the Close of the handshake, and the handshake is worked on behind the round.
+//! The steps of reclaiming before the weighing, as values. Only its own step makes a value, and the next step takes it.
+//! So the code is weighed after the Close of the handshake, which is worked on after the round.
 ghost use Rattle.std.specs.Prelude.{◌≡◌, ◌≢◌, true, false, None, Some, IfOk, IfErr, IfSome};
 ghost use Rattle.desk.specs.declared.entries.Entry.{Entry};
 ghost use Rattle.desk.specs.Fields.{at};
@@ -16,7 +16,8 @@ use std::marker::Model;
 use std::snapshot::Snapshot;
 use stopped_threads::{Reclaimed, weigh};
 
-/// The first step of a reclaiming: a round, and the Ask of its handshake where it has one. It isn't `Drop`: the handshake is worked on.
+/// The first step of reclaiming: a round, and the Ask of the handshake if there is one. It isn't `Drop`, so that the
+/// handshake is worked on.
 pub struct RoundDone<N: Name, J: HandshakeOp> {
     before: Snapshot<Desk<N, J>>,
     after: Snapshot<Desk<N, J>>,
@@ -37,7 +38,7 @@ impl<N: Name, J: HandshakeOp> Model for RoundDone<N, J> {
         b.after.value.keeper ≡ went_round b.before.value.keeper b.before.value.keeper.moment };
 }
 
-/// A reclaim whose handshake is closed, where there is one, with the receipt of its Close.
+/// Reclaiming after its handshake is closed, if there is one, with the receipt of the Close.
 pub struct HandshakeClosed<N: Name, J: HandshakeOp> {
     begun: RoundDone<N, J>,
     closed: Option<Receipt<N>>,
@@ -54,7 +55,7 @@ impl<N: Name, J: HandshakeOp> Model for HandshakeClosed<N, J> {
 }
 
 impl<N: Name, J: HandshakeOp> RoundDone<N, J> {
-    /// Makes the step.
+    /// Makes the round, and queues the request if there is one. Refusals in the order of `ReclaimFault`.
     pub fn begin(
         desk: &mut Desk<N, J>,
         board: &Board,
@@ -93,7 +94,7 @@ impl<N: Name, J: HandshakeOp> RoundDone<N, J> {
         }
     }
 
-    // Whether the handshake is closed at the desk, where there is one: nothing that was asked up to it is open or waits.
+    // Whether the handshake, if there is one, is closed at the desk: no request up to its number is open or waits.
     fn is_over(&self, desk: &Desk<N, J>) -> bool
         ensures { result ≡ true → IsOver self.now.asked desk.now }
     {
@@ -103,7 +104,7 @@ impl<N: Name, J: HandshakeOp> RoundDone<N, J> {
         }
     }
 
-    /// Whether there is no handshake.
+    /// Returns whether there is no handshake.
     pub fn is_alone(&self) -> bool
         ensures yes { result ≡ true → self.now.asked ≡ None }
         ensures no { result ≡ false → self.now.asked ≢ None }
@@ -114,7 +115,7 @@ impl<N: Name, J: HandshakeOp> RoundDone<N, J> {
         }
     }
 
-    /// Goes on where there is no handshake.
+    /// Continues without a handshake.
     pub fn alone(self) -> HandshakeClosed<N, J>
         requires { self.asked ≡ None }
         ensures begun { result.begun ≡ self }
@@ -126,7 +127,7 @@ impl<N: Name, J: HandshakeOp> RoundDone<N, J> {
         }
     }
 
-    /// Goes on behind the Close of its handshake; that of another leaves it as it is.
+    /// Continues after the Close of its handshake. After another Close, returns itself.
     pub fn shaken(
         self,
         number: u64,
@@ -147,7 +148,7 @@ impl<N: Name, J: HandshakeOp> RoundDone<N, J> {
 }
 
 impl<N: Name, J: HandshakeOp> HandshakeClosed<N, J> {
-    /// Looks at each place and weighs the code, and where no activation stands frees it. None where it isn't a code that can be weighed,
+    /// Looks at each place, weighs the code, and frees it if it has no activation. None if the code can't be weighed,
     /// or the handshake isn't closed at the desk.
     pub fn weigh(
         &self,
@@ -166,7 +167,7 @@ impl<N: Name, J: HandshakeOp> HandshakeClosed<N, J> {
         weigh(desk, board, serial, places)
     }
 
-    /// What the weighing found, at the end.
+    /// Ends reclaiming with the result of the weighing.
     pub fn end(self, said: Reclaimed<N>) -> Reclaimed<N>
         ensures { result ≡ said }
     {

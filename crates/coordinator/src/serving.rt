@@ -1,4 +1,4 @@
-//! Serving a held thread.
+//! Serves a held thread.
 ghost use Rattle.std.specs.Prelude.{◌≡◌, ◌<◌, ℕ, None, length, IfOk, IfErr};
 ghost use Rattle.bodies.specs.Bodies.{BodyView};
 ghost use Rattle.stopped_threads.specs.Held.{StandsAt};
@@ -13,8 +13,9 @@ use std::sync::Wait;
 use stopped_threads::{ServeFault, serve_fault_of, unserved};
 
 impl<'a, N: Name, J: HandshakeOp> Coordinator<'a, N, J> {
-    /// Serves the held thread of a place, which was told an open handshake and isn't done with it: publishes its stack, runs its oldest
-    /// job on it, enters what the job answered, and clears the operation. Answers the receipt of the entry.
+    /// Serves the held thread of a place that was armed for an open handshake and isn't done with it: publishes its
+    /// stack, runs its oldest job, enters the job's reply, and clears the operation. Returns the receipt of the Finish.
+    /// Refusals in the order of `ServeFault`.
     pub fn serve<R: Wait>(&mut self, rt: &R, place: usize) -> Result<Receipt<N>, ServeFault>
         ensures served { IfOk result (λ r. (index : ℕ) × (body : BodyView)
             × StandsAt self.old.held index place body × IsServeFault self.old index place None
@@ -31,7 +32,7 @@ impl<'a, N: Name, J: HandshakeOp> Coordinator<'a, N, J> {
         Ok(self.bodies.serve(rt, self.shared, index))
     }
 
-    // Why the held thread at the index, of this place, isn't served.
+    // Why the held thread at this index and place isn't served.
     fn serve_refusal<R: Wait>(&self, rt: &R, index: usize, place: usize) -> Option<ServeFault>
         requires index { index < length self.now.held }
         requires place { place < N.board.places }

@@ -1,4 +1,4 @@
-//! Telling a name: its job, or the mark of a census, goes into the berth of its thread, and the thread's place is armed.
+//! Arms a thread by its name: puts its job, or the mark of a census, into its berth, and arms its place.
 ghost use Rattle.std.specs.Prelude.{◌≡◌, ◌<◌, ◌≤◌, true, length, map, slice_index, IfSome, IfNone, OnSome};
 ghost use Rattle.thread_state.specs.PollRule.{armed_with};
 ghost use Rattle.stopped_threads.specs.Holding.{ArmsOn};
@@ -10,9 +10,8 @@ use crate::all_armed::AllArmed;
 use crate::coordinator::Coordinator;
 use berths::{BerthReceipt, locked};
 use bodies::Name;
-use coordinator_core::{Listed, PendingJob, job_of};
-use desk::{Desk, Target};
-use frames::LAST;
+use coordinator_core::{Listed, PendingJob, PendingOp, job_of, put_in};
+use desk::Desk;
 use operations::Kind;
 use operations::job::HandshakeOp;
 use std::sync::Wait;
@@ -20,8 +19,9 @@ use std::{mem, thread};
 use stopped_threads::{Found, TellFault, Told, look_up};
 
 impl<'a, N: Name, J: HandshakeOp> Coordinator<'a, N, J> {
-    /// Tells a name of the oldest open request that is of it and wasn't told to its thread, which finds it at its next poll. A name
-    /// without a live thread is gone, and nothing is done.
+    /// Arms the named thread's poll for its oldest open request for which it wasn't armed, so that it stops at its next
+    /// poll. Returns the receipt of the job or mark, or `Gone` without a live thread: nothing is done. Refusals in the
+    /// order of `TellFault`.
     pub fn tell<R: Wait>(&mut self, rt: &R, name: u64) -> Result<Told<N>, TellFault>
         ensures said { tell_said name self.old.armer self.new.armer result }
         ensures held { (self.new.held ≡ self.old.held) × (self.new.operated ≡ self.old.operated) }
@@ -30,7 +30,7 @@ impl<'a, N: Name, J: HandshakeOp> Coordinator<'a, N, J> {
         self.tell_with(rt, name, None)
     }
 
-    // Tells the name, with a job for it that was taken before, if any.
+    // Arms the named thread, with a job for it that was taken before, if any.
     fn tell_with<R: Wait>(
         &mut self,
         rt: &R,
@@ -51,8 +51,8 @@ impl<'a, N: Name, J: HandshakeOp> Coordinator<'a, N, J> {
         unreachable!()
     }
 
-    // One try: a look at the desk, and a step at the berth where there is a request that wasn't told. None where the berth bears
-    // another name or none: then its thread is starting or exiting. A job that was taken stays in the hand until then.
+    // One try: a look at the desk and, if an operation is pending, a step at the berth. None if the berth doesn't bear
+    // the name: the thread is starting or exiting. A job that was taken stays in hand.
     fn try_tell<R: Wait>(
         &mut self,
         rt: &R,
@@ -80,11 +80,22 @@ impl<'a, N: Name, J: HandshakeOp> Coordinator<'a, N, J> {
         if job.is_some() {
             *hand = job;
         }
-        let receipt = self.put(rt, name, target, number, hand)?;
-        Some(Ok(Told::Told(receipt)))
+        let what = PendingOp {
+            name,
+            target,
+            number,
+            last: self.armer.last(target.place),
+        };
+        let mut pending = PendingJob {
+            what,
+            job: hand.take(),
+        };
+        let receipt = self.put(rt, &mut pending);
+        *hand = pending.job;
+        Some(Ok(Told::Told(receipt?)))
     }
 
-    // Tells what was listed, and then lists and tells as long as there is more.
+    // Arms the listed threads, and lists and arms again while more is pending.
     pub(crate) fn tell_on<R: Wait>(&mut self, rt: &R, listed: Listed<N, J>) -> AllArmed<N, J>
         requires places { length self.old.armer.armed ≡ N.board.places }
         requires listed { IsListing self.old.armer listed }
@@ -101,7 +112,7 @@ impl<'a, N: Name, J: HandshakeOp> Coordinator<'a, N, J> {
         unreachable!()
     }
 
-    // Lists each thread that is due, and what it is to be told next, under one hold of the desk's lock.
+    // Lists the due threads and the next pending operation of each, under one hold of the desk's lock.
     fn list_untold<R: Wait>(&mut self, rt: &R) -> Listed<N, J>
         ensures same { self.new ≡ self.old }
         ensures places { length self.new.armer.armed ≡ N.board.places }
@@ -111,7 +122,8 @@ impl<'a, N: Name, J: HandshakeOp> Coordinator<'a, N, J> {
         self.list_from(&mut desk)
     }
 
-    // Lists them under a hold of the desk's lock. It is in line, down to its loops: the list that a call answered would go through memory.
+    // Lists them under a hold of the desk's lock. It is inlined, down to its loops, since a returned list would go
+    // through memory.
     #[inline(always)]
     pub(crate) fn list_from(&mut self, desk: &mut Desk<N, J>) -> Listed<N, J>
         ensures same { self.new ≡ self.old }
@@ -124,7 +136,7 @@ impl<'a, N: Name, J: HandshakeOp> Coordinator<'a, N, J> {
         Listed::list(desk, &self.armer, self.places, &mut self.due, list)
     }
 
-    // Tells what was listed. None where there is more, or a thread that was listed wasn't told that.
+    // Arms the listed threads. None if more is pending, or a thread wasn't armed for its listed operation.
     fn tell_listed<R: Wait>(&mut self, rt: &R, listed: Listed<N, J>) -> Option<AllArmed<N, J>>
         requires places { length self.old.armer.armed ≡ N.board.places }
         requires listed { IsListing self.old.armer listed }
@@ -141,7 +153,7 @@ impl<'a, N: Name, J: HandshakeOp> Coordinator<'a, N, J> {
         Some(AllArmed::of(seen, &self.armer))
     }
 
-    // Tells each thread of the list, in the order of their names. Answers whether each was told what was listed for it.
+    // Arms each thread of the list, in the order of names. Returns whether each was armed for its listed operation.
     fn tell_each<R: Wait>(&mut self, rt: &R, list: &mut Vec<PendingJob<J>>) -> bool
         ensures told { result ≡ true → AreArmed self.new.armer (map (λ u. u.what) list.old.items) }
         ensures held { (self.new.held ≡ self.old.held) × (self.new.operated ≡ self.old.operated) }
@@ -154,8 +166,9 @@ impl<'a, N: Name, J: HandshakeOp> Coordinator<'a, N, J> {
         is_told
     }
 
-    // Tells a thread what was listed for it. Where its berth bears another name or none, the name is told as by `tell`. Answers whether
-    // it was told what was listed. Its job goes out of the list straight into the berth, since each store of a copy would be waited for.
+    // Arms a thread for its listed operation, and returns whether it did. If the berth doesn't bear the name, it arms
+    // the thread as `tell` does. The job goes from the list straight into the berth, since the processor would wait for
+    // each store of a copy.
     #[inline(always)]
     fn tell_at<R: Wait>(&mut self, rt: &R, untold: &mut PendingJob<J>) -> bool
         ensures told { result ≡ true
@@ -165,19 +178,14 @@ impl<'a, N: Name, J: HandshakeOp> Coordinator<'a, N, J> {
         ensures arms { ArmsOn self.old.armer self.new.armer }
     {
         let what = untold.what;
-        if what.target.place < self.places
-            && self.armer.last(what.target.place) < what.number
-            && self
-                .put(rt, what.name, what.target, what.number, &mut untold.job)
-                .is_some()
-        {
+        if what.target.place < self.places && self.put(rt, untold).is_some() {
             return true;
         }
         let _ = self.tell_with(rt, what.name, untold.job.take());
         false
     }
 
-    // Notes whether the thread of the place has its body as it is told.
+    // Notes that the place's thread has its body while it is armed.
     #[inline(always)]
     fn note_out(&mut self, place: usize, is_out: bool)
         ensures { self.new ≡ self.old }
@@ -187,48 +195,32 @@ impl<'a, N: Name, J: HandshakeOp> Coordinator<'a, N, J> {
         }
     }
 
-    // The job in hand, or the mark of the census, goes into the berth, and the place is armed. Answers the receipt of the one or the
-    // other. A job of another operation or for another name is dropped.
+    // Puts the pending job or mark into its berth, and arms the place. Returns the receipt of the job or mark.
     #[inline(always)]
-    fn put<R: Wait>(
-        &mut self,
-        rt: &R,
-        name: u64,
-        target: Target,
-        number: u64,
-        hand: &mut Option<J>,
-    ) -> Option<BerthReceipt<N>>
-        requires place { target.place < length self.old.armer.armed }
-        requires later { slice_index self.old.armer.armed target.place < number }
+    fn put<R: Wait>(&mut self, rt: &R, pending: &mut PendingJob<J>) -> Option<BerthReceipt<N>>
+        requires place { pending.old.what.target.place < length self.old.armer.armed }
 
-        ensures armed { OnSome result
-            (self.new.armer ≡ armed_with self.old.armer target.place number) }
+        ensures armed { OnSome result (self.new.armer
+            ≡ armed_with self.old.armer pending.old.what.target.place pending.old.what.number) }
         ensures receipt { IfSome result (λ r.
-            r ≡ acted target.place name (told_act target.kind number)) }
+            r ≡ acted pending.old.what.target.place pending.old.what.name
+            (told_act pending.old.what.target.kind pending.old.what.number)) }
         ensures refused { IfNone result (self.new.armer ≡ self.old.armer) }
+        ensures what { pending.new.what ≡ pending.old.what }
         ensures held { (self.new.held ≡ self.old.held) × (self.new.operated ≡ self.old.operated) }
         ensures arms { ArmsOn self.old.armer self.new.armer }
     {
         let shared = self.shared;
-        let mut room = locked!(shared.berth(target.place).room(), rt);
-        if room.place() != target.place || number > LAST {
-            return None;
-        }
-        let is_out = !room.has_body(name) && !self.bodies.has(target.place);
-        self.note_out(target.place, is_out);
-        let job = match target.kind {
-            Kind::Census => return self.armer.mark(&mut room, shared.row(), name, number),
-            Kind::Handshake => hand.take()?,
-        };
-        if job.op_of() != number || job.target_of() != name {
-            return None;
-        }
-        match self.armer.tell(&mut room, shared.row(), job) {
-            Ok(receipt) => Some(receipt),
-            Err(back) => {
-                *hand = Some(back);
-                None
-            }
-        }
+        let place = pending.what.target.place;
+        let mut room = locked!(shared.berth(place).room(), rt);
+        let is_out = !room.has_body(pending.what.name) && !self.bodies.has(place);
+        self.note_out(place, is_out);
+        put_in(
+            &mut self.armer,
+            self.places,
+            &mut room,
+            shared.row(),
+            pending,
+        )
     }
 }

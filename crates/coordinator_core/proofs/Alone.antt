@@ -1,4 +1,4 @@
--- Threads that are due for a handshake that is open alone are to be told that, and nothing behind it.
+-- If a handshake is the only open request, nothing but it is pending for the threads that are due for it.
 use Rattle.std.proofs.Common.{◌≡◌, ◌||◌, ℕ, suc, zero, Bool, true, false, cond, List, [], ◌∷◌, Some, None, length, slice_index, take, refl, ap, ◌∙◌, arith}
 use Rattle.std.specs.Prelude.{nat_lt}
 use Rattle.std.specs.List.{list_any}
@@ -25,7 +25,7 @@ none_behind s n l last true true asked = ap is_there (asked n) ∙ ap (λ b. is_
 none_behind s n l last true false asked = refl
 none_behind s n l last false later asked = refl
 
--- Nothing is to be told behind it.
+-- Nothing is pending after it.
 pub none_further : (s : State) (n : ℕ) (armer : Arming) (ls : List Live) → AreAskedAlone s n ls → any_more s kind.Handshake armer ls ≡ false
 none_further s n armer [] asked = refl
 none_further s n armer (l ∷ ls) asked =
@@ -46,6 +46,6 @@ first_asked s n zero ls asked = tt
 first_asked s n (suc k) [] asked = tt
 first_asked s n (suc k) (l ∷ ls) asked = (asked.0, first_asked s n k ls asked.1)
 
--- Those that are due are asked so.
+-- The due threads are targets of it alone.
 pub due_asked : (s : State) (n k : ℕ) → AreToldAlone s → only_handshake s.opened ≡ Some n → AreAskedAlone s n (take k (due_of s.opened s.live))
 due_asked s n k told alone = first_asked s n k (due_of s.opened s.live) (all_asked s n told alone s.live)

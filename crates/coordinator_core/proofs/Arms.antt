@@ -1,4 +1,4 @@
--- What the armer's numbers do as places are armed.
+-- The armer's numbers rise as places are armed.
 use Rattle.std.proofs.Common.{◌≡◌, ◌<◌, ◌≤◌, ℕ, length, slice_index, sym, subst, arith, get_or-set_same, get_or-set_other}
 use mathlib.Core.Logic.{dite}
 use native.Mathlib.Decide.{ℕ_discrete}
@@ -12,7 +12,7 @@ arms_same old new e = record { rises = λ place. subst (λ (a : Arming). slice_i
 pub arms_then : (a b c : Arming) → ArmsOn a b → ArmsOn b c → ArmsOn a c
 arms_then a b c p q = record { rises = λ place. let first = p.rises place in let then = q.rises place in omega arith }
 
--- a place is armed with a greater number
+-- arming a place with a greater number
 arms_one : (old : Arming) (place number : ℕ) → place < length old.armed → slice_index old.armed place < number → ArmsOn old (armed_with old place number)
 arms_one old place number low later = record {
   rises = λ p. dite (ℕ_discrete p place)

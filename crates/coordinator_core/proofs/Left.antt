@@ -1,4 +1,4 @@
--- What becomes of a held body that isn't served.
+-- A held body that isn't served.
 use Rattle.std.proofs.Common.{◌≡◌, ℕ, inl, inr}
 use Rattle.std.specs.Prelude.{Result, Ok, Err, OnErr, Some, slice_get, slice_set}
 use Rattle.frames.specs.ImageView.{ImageView}
@@ -19,7 +19,7 @@ pub left_stays : {J N : Type 0} (number whom : J → ℕ) (asks : J → Ask) (ma
 left_stays number whom asks may_answer old new place room left NoJob (i, body, after, stands, is, r) = inr (i, body, after, stands, is, inl r.0)
 left_stays number whom asks may_answer old new place room left (NotEntered done) (i, body, after, stands, is, r) = inr (i, body, after, stands, is, inr r.0)
 
--- The body at the index, where the thread of the place is.
+-- The body at the index is the one of the place's thread.
 pub left_at : {J N : Type 0} (number whom : J → ℕ) (asks : J → Ask) (may_answer : J → ImageView → ℕ → Type 0) (old new : Holding) (place index : ℕ) (room left : Berthing N) (why : Unserved) (stood : BodyView)
     → StandsAt old.held index place stood
     → (body : BodyView) × (after : BodyView) × (slice_get old.held index ≡ Some body) × (new ≡ record old { held = slice_set old.held index after }) × IsLeftUnserved number whom asks may_answer body room why after left

@@ -1,4 +1,4 @@
--- Behind an Open a request is open.
+-- After an Open a request is open.
 use Rattle.std.proofs.Common.{◌≡◌, ◌&&◌, ℕ, Bool, true, false, List, [], ◌∷◌, Option, sym, subst}
 use Rattle.std.specs.Prelude.{IfNone}
 use Rattle.operations.specs.declared.Kind.{Kind}
@@ -10,7 +10,7 @@ use Rattle.desk.specs.Fields.{DeskSeen, Enters, at}
 use Rattle.desk.specs.Targets.{kind_of_oldest, open_kind}
 use Rattle.desk.proofs.Keeping.{after-push}
 
--- the state behind an entry
+-- the state after an entry
 entered : (old new : DeskSeen) (e : Entry) (r : Stands) → Enters old new e r → at new ≡ step (at old) e
 entered old new e r x = rw (x.sizes_stay.0, x.sizes_stay.1, x.history_is) (after-push old.slots old.methods old.book.history e)
 

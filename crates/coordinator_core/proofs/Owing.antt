@@ -1,4 +1,4 @@
--- A live thread that owes an open request is a target of it, so it may be held.
+-- A live thread that owes an open request is its target, so it may be held.
 use Rattle.std.proofs.Common.{◌≡◌, ℕ, Bool, true, false, cond, List, [], ◌∷◌, Option, Some, None, refl, ap, ◌∙◌}
 use Rattle.std.specs.Prelude.{◌==◌, ◌||◌, nat_lt, nat_le, find}
 use Rattle.std.specs.List.{list_any}

@@ -1,4 +1,4 @@
--- What is listed was pending.
+-- Each listed operation was pending.
 use Rattle.std.proofs.Common.{◌≡◌, ◌<◌, ℕ, suc, zero, Bool, true, false, cond, List, [], ◌∷◌, Option, Some, None, length, slice_index, take, map, get_or, refl, ap, subst, ◌∙◌}
 use Rattle.std.specs.Prelude.{nat_lt, slice_get, option_map}
 use Rattle.std.proofs.lemmas.Option.{slice_get-map, slice_get_read}
@@ -16,7 +16,7 @@ are_get [] i t are e = absurd (let k : None ≡ Some t = e in cc)
 are_get (x ∷ ts) zero t are e = let same : x ≡ t = (let k : Some x ≡ Some t = e in cc) in subst WasPending same are.0
 are_get (x ∷ ts) (suc i) t are e = are_get ts i t are.1 e
 
--- The element of a list, seen by a function.
+-- Reading an element of a mapped list.
 pub map_read : {A B : Type 0} (f : A → B) (xs : List A) (i : ℕ) (x : A) → i < length xs → x ≡ get_or xs i x → slice_get (map f xs) i ≡ Some (f x)
 map_read f xs i x low is = slice_get-map f xs i ∙ ap (option_map f) (slice_get_read xs (length xs) i x refl low is)
 
@@ -35,11 +35,11 @@ all_pending d armer (l ∷ ls) legal = by (nat_lt l.place (length armer.armed)) 
     by true None e rest = rest
     by true (Some n) e rest = ((d, legal, e, refl), rest)
 
--- Of what threads are to be told, the first so many were pending.
+-- Of all pending operations, the first `k` were pending.
 pub listed_pending : (d : DeskSeen) (k : ℕ) (armer : Arming) (ls : List Live) → IsLegal d → ArePending (take k (tellings (at d) (kind_told (at d)) armer ls))
 listed_pending d k armer ls legal = are_first k (tellings (at d) (kind_told (at d)) armer ls) (all_pending d armer ls legal)
 
--- The work with the same list, and the next of it.
+-- The work with an equal list, and with the next index too.
 pub same_list : (v d : DriveSeen) (ps : List PendingOp) → v ≡ d → ps ≡ v.pending → record v { pending = ps } ≡ d
 same_list v d ps e same = ap (λ (qs : List PendingOp). record v { pending = qs }) same ∙ e
 

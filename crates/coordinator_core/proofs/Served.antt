@@ -1,4 +1,4 @@
--- A body that was served, or wasn't, stands where the held thread of the place does.
+-- The body at the index is the held one of the place's thread, served or not.
 use Rattle.std.proofs.Common.{◌≡◌, ◌∙◌, ℕ, Some, None, sym, subst}
 use Rattle.std.specs.Prelude.{Result, Ok, Err, IfOk, IfErr, OnErr, slice_get, slice_set}
 use Rattle.frames.specs.ImageView.{ImageView}

@@ -1,4 +1,4 @@
--- What threads are to be told next, and that nothing is left once all of that is armed.
+-- The pending operations of threads. After all of them are armed, none is left.
 use Rattle.std.proofs.Common.{◌≡◌, ◌≤◌, ◌&&◌, ◌||◌, ◌++◌, ℕ, suc, Bool, true, false, cond, List, [], ◌∷◌, Option, Some, None, length, slice_index, take, refl, sym, ap, ◌∙◌, append_assoc, arith}
 use Rattle.std.specs.Prelude.{nat_lt, find}
 use Rattle.std.specs.List.{cons_option}
@@ -23,7 +23,7 @@ same_some m n e = cc
 not_less : (m n : ℕ) → m ≡ n → nat_lt n m ≡ false
 not_less m n e = grind (arith, e)
 
--- Of one request alone nothing is to be told behind it.
+-- With one open request nothing is pending after it.
 pub one_alone : (next name last n : ℕ) (cs : List Current) → length cs ≤ 1 → untold_in next name last cs ≡ Some n → untold_in next name n cs ≡ None
 one_alone next name last n [] few h = refl
 one_alone next name last n (c ∷ d ∷ cs) few h = absurd (omega (arith, few))
@@ -39,7 +39,7 @@ less_of : (a : Bool) (m k x : ℕ) → m ≤ k → (a && nat_lt m x) ≡ false �
 less_of false m k x low e = refl
 less_of true m k x low e = grind (arith, low, e)
 
--- What was told stays told as greater numbers are armed.
+-- If nothing is pending after a number, nothing is after a greater one.
 pub told_still : (next name m k : ℕ) (cs : List Current) → m ≤ k → untold_in next name m cs ≡ None → untold_in next name k cs ≡ None
 told_still next name m k [] low h = refl
 told_still next name m k (c ∷ cs) low h = by (is_untold next name m c) refl h (told_still next name m k cs low)
@@ -50,7 +50,7 @@ told_still next name m k (c ∷ cs) low h = by (is_untold next name m c) refl h 
     by false e none again =
         ap (λ t. number_of (cond t (Some c) (find (is_untold next name k) cs))) (less_of (is_target_of next name c) m k c.number low e) ∙ again none
 
--- The first of them has nothing to be told, or something.
+-- Nothing is pending for the first thread, or something is.
 pub none_first : (s : State) (kind : Kind) (armer : Arming) (l : Live) (ls : List Live) → telling_of s kind armer l ≡ None
     → tellings s kind armer (l ∷ ls) ≡ tellings s kind armer ls
 none_first s kind armer l ls e = ap (λ o. cons_option o (tellings s kind armer ls)) e
@@ -83,13 +83,13 @@ inside : (kind : Kind) (l : Live) (last : ℕ) (b : Bool) (o : Option ℕ) → o
 inside kind l last true o e = ap (telling_by kind l last) e
 inside kind l last false o e = refl
 
--- One that was told up to a number that is armed has nothing more to be told.
+-- If nothing is pending for a thread after a number that is armed, nothing is pending for it.
 still : (s : State) (kind : Kind) (armer : Arming) (l : Live) (m : ℕ) → m ≤ slice_index armer.armed l.place → untold s l.name m ≡ None → telling_of s kind armer l ≡ None
 still s kind armer l m low none =
     inside kind l (slice_index armer.armed l.place) (nat_lt l.place (length armer.armed)) (untold s l.name (slice_index armer.armed l.place))
     (told_still s.next_name l.name m (slice_index armer.armed l.place) s.opened low none)
 
--- The first of them is told what was listed for it, and then the others.
+-- The first thread is armed for its listed operation, and then the others.
 first_told : (s : State) (kind : Kind) (old new : Arming) (l : Live) (ls : List Live) → length new.armed ≡ length old.armed → ArmsOn old new
     → (any_more s kind old ls ≡ false → AreArmed new (tellings s kind old ls) → tellings s kind new ls ≡ [])
     → (b : Bool) (o : Option ℕ) → nat_lt l.place (length old.armed) ≡ b → untold s l.name (slice_index old.armed l.place) ≡ o
@@ -106,7 +106,7 @@ first_told s kind old new l ls long arms again true (Some n) within is more arme
     none_first s kind new l ls (still s kind new l n armed.0 none)
     ∙ again (or_right (is_there (untold s l.name n)) (any_more s kind old ls) more) armed.1
 
--- Once each of them is told what was listed for it, and no more was behind that, none of them is to be told anything.
+-- If each thread is armed for its listed operation and nothing was pending after that, nothing is pending for any.
 pub all_told : (s : State) (kind : Kind) (old new : Arming) (ls : List Live) → length new.armed ≡ length old.armed → ArmsOn old new
     → any_more s kind old ls ≡ false → AreArmed new (tellings s kind old ls) → tellings s kind new ls ≡ []
 all_told s kind old new [] long arms more armed = refl
@@ -114,12 +114,12 @@ all_told s kind old new (l ∷ ls) long arms more armed =
     first_told s kind old new l ls long arms (all_told s kind old new ls long arms)
     (nat_lt l.place (length old.armed)) (untold s l.name (slice_index old.armed l.place)) refl refl more armed
 
--- What is armed stays armed, and one more is.
+-- Operations that are armed stay so.
 pub armed_on : (old new : Arming) (ts : List PendingOp) → ArmsOn old new → AreArmed old ts → AreArmed new ts
 armed_on old new [] arms are = tt
 armed_on old new (t ∷ ts) arms are = let low = arms.rises t.target.place in let one = are.0 in (omega (arith, low, one), armed_on old new ts arms are.1)
 
--- the state of a desk whose history and sizes are the same
+-- the state of a desk with the same history and sizes
 pub at_same : (d e : DeskSeen) → d.book ≡ e.book → d.slots ≡ e.slots → d.methods ≡ e.methods → at d ≡ at e
 at_same d e book slots methods =
     ap (λ (b : Book). after d.slots d.methods b.history) book ∙ ap (λ n. after n d.methods e.book.history) slots ∙ ap (λ n. after e.slots n e.book.history) methods
@@ -133,7 +133,7 @@ or_moved false m a = refl
 or_moved true false a = refl
 or_moved true true a = refl
 
--- Where nothing is open, no thread is due.
+-- If no request is open, no thread is due.
 nothing_due : (ls : List Live) → due_of [] ls ≡ []
 nothing_due [] = refl
 nothing_due (l ∷ ls) = nothing_due ls

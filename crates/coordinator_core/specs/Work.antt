@@ -1,4 +1,4 @@
--- The work on the open requests, as whoever advances it keeps it.
+-- The work on the open requests, as its owner keeps it between two calls.
 use Rattle.std.specs.Prelude.{◌≡◌, ◌+◌, ◌-◌, ◌^◌, ℕ, Bool, true, false, List, [], ◌∷◌, Option, Some, None, min}
 use Rattle.operations.specs.declared.Kind.{Kind}
 use Rattle.operations.specs.declared.Kind.TheVariants as kind
@@ -7,15 +7,16 @@ use Rattle.desk.specs.Fields.{DeskSeen, at}
 use Rattle.desk.specs.Machine.{is_legal}
 use Rattle.desk.specs.Targets.{untold}
 use Rattle.coordinator_core.specs.Telling.{kind_told}
+use Rattle.coordinator_core.specs.declared.drive.Callback.{Callback}
 use Rattle.coordinator_core.specs.declared.drive.Stage.{Stage}
 use Rattle.coordinator_core.specs.declared.drive.Stage.TheVariants as stage
 use Rattle.coordinator_core.specs.declared.listing.PendingOp.{PendingOp}
 
--- A desk as it can be: each entry of its history was lawful where it was entered.
+-- The history of the desk is legal.
 abbrev pub IsLegal : DeskSeen → Type 0
 IsLegal d = is_legal d.slots d.methods d.book.history ≡ true
 
--- By such a desk it was pending for the thread, whose place was armed last with that number.
+-- At a desk with a legal history the operation was pending for the thread, whose place was last armed with `last`.
 abbrev pub WasPending : PendingOp → Type 0
 WasPending p = (d : DeskSeen) × IsLegal d × (untold (at d) p.name p.last ≡ Some p.number) × (kind_told (at d) ≡ p.target.kind)
 
@@ -23,9 +24,8 @@ abbrev pub ArePending : List PendingOp → Type 0
 ArePending [] = Unit {0}
 ArePending (p ∷ ps) = WasPending p × ArePending ps
 
--- What is done next; what is listed, and whether there is more; the threads that are due, and the next of the one list or the other; how
--- many of those that are due haven't come in this pass, and how many are awaited; and the operation and the place of the held thread that is
--- served next.
+-- The next step; the list, and whether more is pending; the due threads; the index in the list or in the due threads;
+-- how many of these haven't come in this pass, and how many are awaited; and the host's next callback.
 pub record DriveSeen : Type 0 where
   pub stage : Stage
   pub pending : List PendingOp
@@ -34,7 +34,7 @@ pub record DriveSeen : Type 0 where
   pub at : ℕ
   pub late : ℕ
   pub awaited : ℕ
-  pub called : Option (ℕ × ℕ)
+  pub called : Option Callback
 
 -- No work.
 abbrev pub idle : DriveSeen
@@ -49,16 +49,16 @@ idle = record {
   called = None;
 }
 
--- One more.
+-- One more, at most the greatest `u64`.
 abbrev pub counted : ℕ → ℕ
 counted n = min (n + 1) (2 ^ 64 - 1)
 
--- How many are awaited behind a pass in which so many hadn't come, and before one over so many.
+-- How many threads the next pass awaits: all `due` ones, or as many as hadn't come in the last pass.
 abbrev pub awaited_behind : (of_oldest : Bool) → (late due : ℕ) → ℕ
 awaited_behind true late due = due
 awaited_behind false late due = late
 
--- What is done once all that was listed is armed.
+-- The step after all listed threads are armed.
 abbrev pub stage_behind : (has_more : Bool) → Kind → Stage
 stage_behind true k = stage.Begin
 stage_behind false kind.Handshake = stage.Serve

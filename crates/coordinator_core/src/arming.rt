@@ -1,4 +1,4 @@
-//! Putting what is pending for a thread into its room, and arming its place.
+//! Puts a pending job or census mark into a thread's room, and arms the thread's place.
 ghost use Rattle.std.specs.Prelude.{◌≡◌, ◌<◌, length, slice_index, IfSome, IfNone, OnSome};
 ghost use Rattle.thread_state.specs.PollRule.{armed_with};
 ghost use Rattle.berths.specs.Berths.{acted};
@@ -14,8 +14,9 @@ use operations::job::HandshakeOp;
 use poll::PollRow;
 use stopped_threads::PollArmer;
 
-/// Puts the job, or the mark of the census, into the room, and arms its place. Returns the receipt of the one or the other. None where the
-/// room bears another name or none, the place was armed meanwhile, or there is no such job: nothing is done.
+/// Puts the job, or the mark of the census, into the room, and arms its place. Returns the receipt of the job or mark.
+/// None if the room doesn't bear the name, the place was armed meanwhile, or the job is missing or has no room: nothing
+/// is done.
 #[inline(always)]
 pub fn put_in<N: Name, J: HandshakeOp>(
     armer: &mut PollArmer,

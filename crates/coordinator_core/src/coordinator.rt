@@ -1,4 +1,4 @@
-//! What a coordinator keeps, and the closing of a request.
+//! The state of a coordinator, and the Close of a request.
 ghost use Rattle.std.specs.Prelude.{◌≡◌, false, IfOk, IfErr, OnOk};
 ghost use Rattle.poll.specs.Rows.{full_armer};
 ghost use Rattle.desk.specs.declared.entries.Entry.{Entry};
@@ -16,7 +16,7 @@ use std::alloc::{AllocError, Global};
 use std::marker::Model;
 use stopped_threads::{HeldBodies, PollArmer};
 
-/// What a coordinator keeps: the bodies that it holds, what arms places, and whether the open census is operated.
+/// The state of a coordinator: the held bodies, the armer of places, and whether the open census is operated.
 #[derive(Drop)]
 pub struct CoordinatorCore<N: Name> {
     pub(crate) armer: PollArmer,
@@ -38,7 +38,10 @@ impl<N: Name> Model for CoordinatorCore<N> {
 }
 
 impl<N: Name> CoordinatorCore<N> {
-    /// A coordinator that holds nothing. The error is that memory was refused.
+    /// Makes a coordinator that holds no body.
+    ///
+    /// # Errors
+    /// Memory is refused.
     pub fn new(alloc: Global, armer: Armer, row: &PollRow) -> Result<CoordinatorCore<N>, AllocError>
         requires armer { armer ≡ full_armer N.poll_row N.board.places }
         requires row { row.now ≡ N.poll_row }
@@ -56,7 +59,7 @@ impl<N: Name> CoordinatorCore<N> {
         })
     }
 
-    /// How many places there are.
+    /// Returns the number of places.
     pub fn places(&self) -> usize
         ensures { result ≡ N.board.places }
     {
@@ -64,8 +67,8 @@ impl<N: Name> CoordinatorCore<N> {
         self.places
     }
 
-    /// Closes the open request of the number, or without one the oldest, and drops the jobs of targets that are gone. Answers its number,
-    /// with the receipt of its Close.
+    /// Closes the open request of this number, or without a number the oldest, and drops the jobs of targets that are
+    /// gone. Returns the request's number and the receipt of the Close. Refusals in the order of `CloseFault`.
     pub fn close<J: HandshakeOp>(
         &mut self,
         desk: &mut Desk<N, J>,

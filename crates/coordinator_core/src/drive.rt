@@ -1,4 +1,4 @@
-//! How far the work on the open requests is: a value that whoever advances that work keeps between two calls.
+//! The state of the work on the open requests: a value that its owner keeps between two calls.
 ghost use Rattle.std.specs.Prelude.{◌≡◌, ◌<◌, [], ℕ, Some, None, IfSome, IfNone, OnSome, length, slice_get, slice_index, take};
 ghost use Rattle.thread_state.specs.PollRule.{armed_with};
 ghost use Rattle.berths.specs.Berths.{acted};
@@ -21,24 +21,33 @@ use std::marker::Model;
 use std::mem;
 use stopped_threads::PollArmer;
 
-/// What is done next.
+/// The next step of the work.
 #[derive(Clone, Copy, PartialEq, Eq, Debug, Drop)]
 pub enum Stage {
-    /// Where nothing is open, the oldest request that waits is opened. Then what is pending for which thread is listed.
+    /// Open the oldest waiting request if none is open, and list the due threads and their pending operations.
     Begin,
-    /// The listed threads are armed. Requests of this kind are open.
+    /// Arm the listed threads. Requests of this kind are open.
     Arm(Kind),
-    /// The targets of the open handshakes are served.
+    /// Serve the targets of the open handshakes.
     Serve,
-    /// All live threads are held.
+    /// Hold all live threads.
     Hold,
-    /// The census is operated: the held threads are let go, and it is closed.
+    /// Release the held threads and close the census, which is operated.
     Release,
 }
 
-/// The work on the open requests. Contracts see what is done next, what is listed without its jobs, the threads that are due and the next of
-/// them, how many of those haven't come in this pass, how many are awaited, and for which operation a held thread of which place is served
-/// next.
+/// A callback that the host runs while threads are held.
+#[derive(Clone, Copy, PartialEq, Eq, Debug, Drop)]
+pub enum Callback {
+    /// The callback of the handshake of this number, for the held thread of this place.
+    Handshake(u64, usize),
+    /// The VM operation of the operated census of this number. All live threads are held.
+    Safepoint(u64),
+}
+
+/// The work on the open requests. Contracts see the next step, the list without its jobs, whether more is pending, the
+/// due threads, the index in the list or in the due threads, how many of these haven't come in this pass, how many are
+/// awaited, and the host's next callback.
 #[derive(Drop)]
 pub struct Drive<J: HandshakeOp> {
     stage: Stage,
@@ -48,7 +57,7 @@ pub struct Drive<J: HandshakeOp> {
     at: usize,
     late: usize,
     awaited: usize,
-    called: Option<(u64, usize)>,
+    called: Option<Callback>,
 }
 
 impl<J: HandshakeOp> Model for Drive<J> {
@@ -74,7 +83,7 @@ impl<J: HandshakeOp> Model for Drive<J> {
 }
 
 impl<J: HandshakeOp> Drive<J> {
-    /// No work.
+    /// Makes a `Drive` without work.
     pub fn none(alloc: Global) -> Drive<J>
         ensures { result ≡ idle }
     {
@@ -90,56 +99,59 @@ impl<J: HandshakeOp> Drive<J> {
         }
     }
 
-    /// Takes memory for lists of so many threads, where that wasn't done before. The error is that memory was refused.
+    /// Reserves memory for lists of this many threads, unless that was done before.
+    ///
+    /// # Errors
+    /// Memory is refused.
     pub fn reserve(&mut self, alloc: Global, places: usize) -> Result<(), AllocError>
         ensures { self.new ≡ self.old }
     {
         if self.list.is_empty() && self.list.capacity() < places {
             self.list = Vec::with_capacity(alloc, places)?;
         }
-        // Where it is full, there may be more than it has room for.
+        // One more than `places`: a full list means that more threads may be due.
         if self.due.is_empty() && self.due.capacity() <= places {
             self.due = Vec::with_capacity(alloc, places.saturating_add(1))?;
         }
         Ok(())
     }
 
-    /// What is done next.
+    /// Returns the next step.
     pub fn stage(&self) -> Stage
         ensures { result ≡ self.now.stage }
     {
         self.stage
     }
 
-    /// Goes on to this.
+    /// Sets the next step.
     pub fn go(&mut self, stage: Stage)
         ensures { self.new ≡ record self.old { stage = stage } }
     {
         self.stage = stage;
     }
 
-    /// For which operation the held thread of which place is served next.
-    pub fn called(&self) -> Option<(u64, usize)>
+    /// Returns the host's next callback.
+    pub fn called(&self) -> Option<Callback>
         ensures { result ≡ self.now.called }
     {
         self.called
     }
 
-    /// How many of the threads that are due the work waits for.
+    /// Returns how many due threads the work waits for.
     pub fn awaited(&self) -> usize
         ensures { result ≡ self.now.awaited }
     {
         self.awaited
     }
 
-    /// How many weren't there in this pass so far.
+    /// Returns how many threads haven't come in this pass so far.
     pub fn late(&self) -> usize
         ensures { result ≡ self.now.late }
     {
         self.late
     }
 
-    /// Lists each thread that is due, and what is pending for it.
+    /// Lists the due threads and the next pending operation of each.
     pub(crate) fn list<N: Name>(
         &mut self,
         desk: &mut Desk<N, J>,
@@ -165,7 +177,7 @@ impl<J: HandshakeOp> Drive<J> {
         self.stage = Stage::Arm(kind);
     }
 
-    /// What is armed next, or None where all that was listed is.
+    /// Returns the next operation to arm, or None after the last of the list.
     pub fn next_pending(&self) -> Option<PendingOp>
         ensures next { result ≡ slice_get self.now.pending self.now.at }
         ensures found { IfSome result WasPending }
@@ -177,7 +189,7 @@ impl<J: HandshakeOp> Drive<J> {
         }
     }
 
-    /// Puts what is armed next into its room, and arms the place. None where nothing is done.
+    /// Puts the next job or mark of the list into its room, and arms the place. None if nothing is done.
     #[inline(always)]
     pub(crate) fn arm_next<N: Name>(
         &mut self,
@@ -208,7 +220,7 @@ impl<J: HandshakeOp> Drive<J> {
         Some(receipt)
     }
 
-    /// Puts this into the place of the job that is armed next, and returns that. Where nothing is armed next, nothing is done.
+    /// Replaces the job of the next operation to arm, and returns the old job. After the last operation, returns `job`.
     pub fn swap_job(&mut self, job: Option<J>) -> Option<J>
         ensures { self.new ≡ self.old }
     {
@@ -218,8 +230,8 @@ impl<J: HandshakeOp> Drive<J> {
         mem::replace(&mut self.list[self.at].job, job)
     }
 
-    /// All that was listed is armed. The pass over the threads that are due begins; or where more was pending than was listed, all that is
-    /// pending is listed again.
+    /// Ends the arming of the list. Next is the pass over the due threads or, if more was pending than was listed, a
+    /// new list.
     pub fn arm_ends(&mut self, kind: Kind)
         ensures { self.new ≡ record self.old {
           stage = stage_behind self.old.has_more kind;
@@ -239,7 +251,7 @@ impl<J: HandshakeOp> Drive<J> {
         };
     }
 
-    /// The next thread of the pass, or None behind the last.
+    /// Returns the next thread of the pass, or None after the last.
     #[inline(always)]
     pub fn next_due(&self) -> Option<Live>
         ensures { result ≡ slice_get self.now.due self.now.at }
@@ -251,7 +263,7 @@ impl<J: HandshakeOp> Drive<J> {
         }
     }
 
-    /// The next of the list was armed, or the next thread of the pass has come.
+    /// Advances to the next operation of the list, or to the next thread of the pass.
     #[inline(always)]
     pub fn pass(&mut self)
         ensures { self.new ≡ record self.old { at = counted self.old.at } }
@@ -259,7 +271,7 @@ impl<J: HandshakeOp> Drive<J> {
         self.at = self.at.saturating_add(1);
     }
 
-    /// The next thread of the pass hasn't come.
+    /// Advances to the next thread, and counts one that hasn't come.
     pub fn pass_late(&mut self)
         ensures { self.new ≡ record self.old {
           at = counted self.old.at;
@@ -270,8 +282,9 @@ impl<J: HandshakeOp> Drive<J> {
         self.late = self.late.saturating_add(1);
     }
 
-    /// Begins a further pass: over the threads that are due for the oldest open request, which are awaited; or over those that are due for
-    /// any, of which those that hadn't come in this pass are. There is room for so many.
+    /// Begins another pass. If `of_oldest`, it is over the threads that are due for the oldest open request, and awaits
+    /// them all. Otherwise it is over those that are due for any request, and awaits as many as hadn't come in the last
+    /// pass. The due threads are listed as far as the list has room.
     pub fn pass_again<N: Name>(&mut self, desk: &Desk<N, J>, of_oldest: bool)
         ensures { (room : ℕ) × (self.new ≡ record self.old {
           due = take room (due_of (of_which of_oldest (at desk.now).opened) (at desk.now).live);
@@ -287,15 +300,22 @@ impl<J: HandshakeOp> Drive<J> {
         self.late = 0;
     }
 
-    /// The held thread of the place is served next, for this operation.
+    /// Sets the next callback: the handshake's, for the held thread of the place.
     #[inline(always)]
     pub fn call(&mut self, number: u64, place: usize)
-        ensures { self.new ≡ record self.old { called = Some (number, place) } }
+        ensures { self.new ≡ record self.old { called = Some (Callback.Handshake number place) } }
     {
-        self.called = Some((number, place));
+        self.called = Some(Callback::Handshake(number, place));
     }
 
-    /// No thread is served next.
+    /// Sets the next callback: the census's VM operation.
+    pub fn call_at_safepoint(&mut self, number: u64)
+        ensures { self.new ≡ record self.old { called = Some (Callback.Safepoint number) } }
+    {
+        self.called = Some(Callback::Safepoint(number));
+    }
+
+    /// Sets no next callback.
     #[inline(always)]
     pub fn call_ends(&mut self)
         ensures { self.new ≡ record self.old { called = None } }

@@ -1,4 +1,4 @@
-//! The steps of the work on the open requests, over a desk and a room that are lent.
+//! The steps of the work on the open requests, over a lent desk and lent rooms.
 ghost use Rattle.std.specs.Prelude.{◌≡◌, ◌<◌, [], true, false, slice_index, slice_get, Some, IfOk, IfErr, OnErr, IfSome, IfNone, OnSome};
 ghost use Rattle.thread_state.specs.PollRule.{armed_with};
 ghost use Rattle.berths.specs.Berths.{acted, is_told};
@@ -22,18 +22,18 @@ use operations::job::HandshakeOp;
 use poll::PollRow;
 use stopped_threads::Unserved;
 
-/// Why a thread isn't served in its place.
+/// Why `call` returns no job.
 #[derive(Clone, Copy, PartialEq, Eq, Debug, Drop)]
 pub enum NotCalled {
-    /// It has no job: it runs the job itself, or has done so.
+    /// The thread's room has no job: the thread runs its job itself, or has run it.
     Idle,
-    /// Its body isn't in its room.
+    /// The thread's body isn't in its room.
     Away,
 }
 
 impl<N: Name> CoordinatorCore<N> {
-    /// Opens the oldest request that waits, where nothing is open, and lists what is pending for which thread, under the same hold of the
-    /// desk. False where nothing is open and nothing waits.
+    /// Opens the oldest waiting request if none is open, and lists the due threads and the next pending operation of
+    /// each, both while the desk is lent. Returns false if no request is open or waits.
     pub fn begin<J: HandshakeOp>(&self, desk: &mut Desk<N, J>, drive: &mut Drive<J>) -> bool
         ensures opened { (mid : DeskSeen) × MayOpen desk.old mid × (desk.new.book ≡ mid.book) }
         ensures called { drive.new.called ≡ drive.old.called }
@@ -47,8 +47,8 @@ impl<N: Name> CoordinatorCore<N> {
         true
     }
 
-    /// Puts what is armed next into its room, and arms the place. None where the room bears another name or none, the place was armed
-    /// meanwhile, or its job isn't there: nothing is done.
+    /// Puts the next job or mark of the list into its room, and arms the place. None if the list has ended, the room
+    /// doesn't bear the name, the place was armed meanwhile, or the job is missing or has no room: nothing is done.
     pub fn arm_next<J: HandshakeOp>(
         &mut self,
         drive: &mut Drive<J>,
@@ -70,14 +70,14 @@ impl<N: Name> CoordinatorCore<N> {
         drive.arm_next(&mut self.armer, self.places, room, row)
     }
 
-    /// Whether the body of the place is held.
+    /// Returns whether the place's body is held.
     pub fn holds(&self, place: usize) -> bool
         ensures { result ≡ is_held place self.now.held }
     {
         self.bodies.has(place)
     }
 
-    /// The place of the body that was taken last, or None where no body is held.
+    /// Returns the place of the body that was taken last, or None if no body is held.
     pub fn last_held(&self) -> Option<usize>
         ensures none { IfNone result (self.now.held ≡ []) }
         ensures held { IfSome result (λ place. (place < N.board.places)
@@ -88,7 +88,8 @@ impl<N: Name> CoordinatorCore<N> {
         Some(last.place())
     }
 
-    /// Lets the body go that was taken last: the receipt of that. None where it didn't come out of the room that is lent, or no body is held.
+    /// Releases the body that was taken last, and returns the receipt. None if no body is held, or the body didn't come
+    /// out of the lent room.
     pub fn release_last<J: HandshakeOp>(&mut self, room: &mut Room<N, J>) -> Option<BodyReceipt<N>>
         ensures released { IfSome result
             (λ r. Releases self.old self.new r.body.seat.place r) }
@@ -101,8 +102,7 @@ impl<N: Name> CoordinatorCore<N> {
         self.bodies.release_into(count - 1, room, self.operated)
     }
 
-    /// Holds the thread that is due and isn't held, where its body is in its room and something is pending for it. Returns the receipt that
-    /// the body came out.
+    /// Holds a due thread if its body is in its room, with a job or mark. Returns the receipt that the body came out.
     pub fn hold_due<J: HandshakeOp>(
         &mut self,
         room: &mut Room<N, J>,
@@ -122,8 +122,8 @@ impl<N: Name> CoordinatorCore<N> {
         }
     }
 
-    /// Holds the thread that is due, where its body is in its room with a job and isn't held. Returns the number of its oldest job, which is
-    /// to run next.
+    /// Holds the due thread, unless it is held, if its body is in its room with a job. Returns the number of the oldest
+    /// job, which runs next. Refused with `Away` if the room is another place's, then with `Idle`, then with `Away`.
     pub fn call<J: HandshakeOp>(
         &mut self,
         room: &mut Room<N, J>,
@@ -151,8 +151,12 @@ impl<N: Name> CoordinatorCore<N> {
         Ok(number)
     }
 
-    /// Serves the held thread of the place, whose oldest job has the number: publishes its stack, runs the job on it, enters what the job
-    /// answered, and clears the operation. Returns what is known of the entry.
+    /// Serves the held thread of the place, whose oldest job has this number: publishes its stack, runs the job, enters
+    /// the job's reply, and clears the operation. Returns the receipt of the Finish.
+    ///
+    /// # Errors
+    /// `NoJob` if the thread isn't held or its oldest job has another number; `NotEntered` if the desk refuses the
+    /// reply.
     pub fn serve_called<J: HandshakeOp>(
         &mut self,
         desk: &mut Desk<N, J>,

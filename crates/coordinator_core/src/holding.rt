@@ -1,4 +1,4 @@
-//! Holding a thread, serving it, and letting it go.
+//! Holding, serving and releasing threads.
 ghost use Rattle.std.specs.Prelude.{◌≡◌, ◌≢◌, ◌<◌, ◌++◌, ◌∷◌, [], false, None, Some, length, slice_index, IfSome, IfNone, IfOk, IfErr, ℕ};
 ghost use Rattle.bodies.specs.Bodies.{BodyView};
 ghost use Rattle.berths.specs.declared.room.Holder.TheVariants.{Out as IsOut};
@@ -20,7 +20,7 @@ use operations::job::HandshakeOp;
 use poll::PollRow;
 use stopped_threads::{HoldFault, ReleaseFault, ServeFault, Unserved, serve_fault_of, unserved};
 
-// Why a thread that stands to the open requests like this, and owes nothing of what it was told, isn't held.
+// Why a thread isn't held, by its standing and a progress that isn't `Undone`.
 fn refusal(said: Standing, progress: Progress) -> HoldFault
     requires { (n : ℕ) → progress ≢ IsUndone n }
     ensures { hold_fault said progress ≡ Some result }
@@ -38,8 +38,9 @@ fn refusal(said: Standing, progress: Progress) -> HoldFault
 }
 
 impl<N: Name> CoordinatorCore<N> {
-    /// Holds the thread of a place, which was told an open request and isn't done with it: takes its body out of its room. Answers the
-    /// number of the oldest operation that it owes, with the receipt that it came out.
+    /// Holds the thread of a place that was armed for an open request and isn't done with it: takes its body out of its
+    /// room. Returns the number of the oldest operation that the thread owes, and the receipt that the body came out.
+    /// Refusals in the order of `HoldFault`.
     pub fn hold<J: HandshakeOp>(
         &mut self,
         desk: &Desk<N, J>,
@@ -68,8 +69,8 @@ impl<N: Name> CoordinatorCore<N> {
         }
     }
 
-    // The name of the thread of a place that may be held as far as the desk goes and isn't held, with the number of the oldest operation
-    // that it owes; or why there is none.
+    // The name of the thread at the place, if the desk lets it be held and it isn't held, and the number of the oldest
+    // operation that it owes; or the refusal.
     #[tactic(auto, using(crate::proofs::Owing::owes))]
     fn holdable<J: HandshakeOp>(
         &self,
@@ -92,7 +93,7 @@ impl<N: Name> CoordinatorCore<N> {
         let Some(name) = desk.name_at(place) else {
             return Err(HoldFault::Vacant);
         };
-        // Who owes a request is a target of it: how the name stands is looked up for others alone.
+        // A thread that owes a request is its target, so only other threads need their standing.
         let progress = desk.progress(name, last);
         match progress {
             Progress::Undone(_) if self.bodies.has(place) => Err(HoldFault::Held),
@@ -101,7 +102,7 @@ impl<N: Name> CoordinatorCore<N> {
         }
     }
 
-    /// Why a place has no held thread: there is no such place, no live thread has it, or its thread isn't held.
+    /// Returns why a place has no held thread.
     pub fn unheld<J: HandshakeOp>(&self, desk: &Desk<N, J>, place: usize) -> ReleaseFault
         ensures { HasNoHeldBy (In (at desk.now)) N.board.places place result }
     {
@@ -114,8 +115,8 @@ impl<N: Name> CoordinatorCore<N> {
         }
     }
 
-    /// The held body of a place goes back into its room: the receipt of that. None where it didn't come out of the room that is lent, and
-    /// nothing is done.
+    /// Puts the held body of a place back into its room, and returns the receipt. None if the body didn't come out of
+    /// the lent room: nothing is done. Refusals in the order of `ReleaseFault`.
     pub fn release<J: HandshakeOp>(
         &mut self,
         desk: &Desk<N, J>,
@@ -137,7 +138,8 @@ impl<N: Name> CoordinatorCore<N> {
         }
     }
 
-    /// Lets go of a held thread as `release` does, without the desk. None where no thread of the place is held: `unheld` tells why.
+    /// Releases a thread as `release` does, without the desk. None if no thread of the place is held: `unheld` returns
+    /// why.
     #[inline(always)]
     pub fn release_held<J: HandshakeOp>(
         &mut self,
@@ -155,9 +157,13 @@ impl<N: Name> CoordinatorCore<N> {
         Some(self.bodies.release_into(index, room, self.operated))
     }
 
-    /// Serves the held thread of a place, which was told an open handshake and isn't done with it: publishes its stack, runs its oldest job
-    /// on it, enters what the job answered, and clears the operation. Answers the number of the operation, with what is known of the
-    /// entry.
+    /// Serves the held thread of a place that was armed for an open handshake and isn't done with it: publishes its
+    /// stack, runs its oldest job, enters the job's reply, and clears the operation. Returns the operation's number and
+    /// the receipt of the Finish.
+    ///
+    /// # Errors
+    /// The outer error is a refusal, in the order of `ServeFault`. The inner one is `NoJob`, or `NotEntered` if the
+    /// desk refuses the reply.
     pub fn serve<J: HandshakeOp>(
         &mut self,
         desk: &mut Desk<N, J>,
@@ -200,7 +206,7 @@ impl<N: Name> CoordinatorCore<N> {
         Ok(self.bodies.serve_lent(index, room, desk, board, row))
     }
 
-    // Why the held thread at the index, of this place, isn't served.
+    // Why the held thread at this index and place isn't served.
     fn serve_refusal<J: HandshakeOp>(
         &self,
         desk: &Desk<N, J>,

@@ -1,5 +1,5 @@
-//! The steps of a coordinator over a desk and a room that are lent to it, with no lock of its own.
-//! `parties` makes acts of the coordinator of it.
+//! The steps of a coordinator over a desk and rooms that are lent to it. It has no lock of its own.
+//! `parties` makes the coordinator's acts of these steps.
 //! Read `src/coordinator.rt` first, then `specs/Done.antt` and `stopped_threads/specs/Refused.antt`.
 #![tactic(auto)]
 
@@ -15,7 +15,7 @@ mod telling;
 
 pub use arming::put_in;
 pub use coordinator::CoordinatorCore;
-pub use drive::{Drive, Stage};
+pub use drive::{Callback, Drive, Stage};
 pub use driving::NotCalled;
 pub use listing::{Listed, PendingJob, PendingOp, job_of};
 pub use opening::open_or_go_on;

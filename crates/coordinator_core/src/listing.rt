@@ -1,5 +1,5 @@
-//! What live threads are to be told, found under one hold of the desk's lock. It has a module of its own, so that what was listed is told as
-//! what the desk said.
+//! Lists the pending operations of due threads, in one look at the desk. A module of its own makes sure that every
+//! `Listed` is true of the desk.
 ghost use Rattle.std.specs.Prelude.{◌≡◌, ◌≤◌, ◌<◌, ◌-◌, ◌⊎◌, ◌++◌, ℕ, true, false, Some, None, [], All, IfSome, length, map, take, vec_len, vec_capacity};
 ghost use Rattle.desk.specs.Fields.{at};
 ghost use Rattle.operations.specs.declared.Kind.TheVariants as kind;
@@ -14,8 +14,8 @@ use std::marker::Model;
 use std::snapshot::Snapshot;
 use stopped_threads::PollArmer;
 
-/// The oldest open request of a thread whose job or mark isn't in its berth yet: its number, and with which number the thread's place was
-/// armed last when that was found.
+/// The oldest open request for which a thread's poll wasn't armed yet. `last` is the number with which the thread's
+/// place was last armed when this was found.
 #[derive(Clone, Copy, Drop)]
 pub struct PendingOp {
     pub name: u64,
@@ -24,14 +24,15 @@ pub struct PendingOp {
     pub last: u64,
 }
 
-/// What a thread is to be told, with its job where there is one.
+/// A pending operation, with its job if it has one.
 #[derive(Drop)]
 pub struct PendingJob<J> {
     pub what: PendingOp,
     pub job: Option<J>,
 }
 
-/// A look at the desk, with what was listed. Contracts see the desk then, what is listed without its jobs, and whether there is more.
+/// A look at the desk, and the list that it made. Contracts see the desk at that time, the list without its jobs, and
+/// whether more is pending.
 #[derive(Drop)]
 pub struct Listed<N: Name, J: HandshakeOp> {
     seen: Snapshot<Desk<N, J>>,
@@ -54,7 +55,7 @@ impl<N: Name, J: HandshakeOp> Model for Listed<N, J> {
 }
 
 impl<N: Name, J: HandshakeOp> Listed<N, J> {
-    /// Lists into these lists each thread that is due, and what it is to be told next.
+    /// Looks at the desk: lists the due threads into `due`, and the next pending operation of each into `list`.
     #[inline(always)]
     pub fn list(
         desk: &mut Desk<N, J>,
@@ -77,7 +78,7 @@ impl<N: Name, J: HandshakeOp> Listed<N, J> {
         }
     }
 
-    /// The desk then, what was listed, and whether there is more.
+    /// Returns the desk at the look, the list, and whether more is pending.
     #[inline(always)]
     pub fn parts(self) -> (Snapshot<Desk<N, J>>, Vec<PendingJob<J>>, bool)
         ensures seen { result.0.value ≡ self.seen }
@@ -93,7 +94,7 @@ impl<N: Name, J: HandshakeOp> Listed<N, J> {
     }
 }
 
-/// The job of the name in an operation, where it is wanted.
+/// Takes the operation's job for the name from the desk, if the job is wanted.
 #[inline(always)]
 pub fn job_of<N: Name, J: HandshakeOp>(
     desk: &mut Desk<N, J>,
@@ -112,8 +113,8 @@ pub fn job_of<N: Name, J: HandshakeOp>(
     }
 }
 
-// What a live thread is to be told next, by what its place was armed with last. None where it was told all, or the desk names a place
-// that there isn't.
+// The next pending operation of a live thread, by the number with which its place was last armed. None if nothing is
+// pending, or the place doesn't exist.
 #[inline(always)]
 fn telling_of<N: Name, J: HandshakeOp>(
     desk: &Desk<N, J>,
@@ -144,7 +145,7 @@ fn telling_of<N: Name, J: HandshakeOp>(
     })
 }
 
-// Whether a thread is to be told more behind what it is to be told next.
+// Whether more is pending for a thread after the operation of this number.
 #[inline(always)]
 fn has_more<N: Name, J: HandshakeOp>(desk: &Desk<N, J>, name: u64, number: u64) -> bool
     requires next { (last : ℕ) × (untold (at desk.now) name last ≡ Some number) }
@@ -153,7 +154,7 @@ fn has_more<N: Name, J: HandshakeOp>(desk: &Desk<N, J>, name: u64, number: u64) 
     desk.open_count() > 1 && desk.untold(name, number).is_some()
 }
 
-// What a thread is to be told, with its job, which is taken from the desk.
+// Takes the operation's job from the desk. A census has none.
 #[inline(always)]
 fn with_job<N: Name, J: HandshakeOp>(desk: &mut Desk<N, J>, what: PendingOp) -> PendingJob<J>
     ensures what { result.what ≡ what }
@@ -170,7 +171,8 @@ fn with_job<N: Name, J: HandshakeOp>(desk: &mut Desk<N, J>, what: PendingOp) -> 
     PendingJob { what, job }
 }
 
-// Lists what each of these is to be told next, as far as there is room. Answers whether any is to be told more, or there was no room.
+// Lists the next pending operation of each thread, as far as the list has room. Returns whether more is pending for
+// any, or the list is too short.
 #[inline(always)]
 fn list_each<N: Name, J: HandshakeOp>(
     desk: &mut Desk<N, J>,
@@ -209,8 +211,7 @@ fn list_each<N: Name, J: HandshakeOp>(
     more
 }
 
-// What a thread is to be told where it is due for the handshake of this number, which is open alone. None where it was told that, or there is
-// no such place.
+// As `telling_of`, for a thread that is due for the handshake of this number, which is open alone.
 #[inline(always)]
 fn telling_alone(armer: &PollArmer, places: usize, number: u64, who: Live) -> Option<PendingOp>
     requires places { places ≡ length armer.now.seen.armed }
@@ -234,8 +235,8 @@ fn telling_alone(armer: &PollArmer, places: usize, number: u64, who: Live) -> Op
     })
 }
 
-// As `list_each`, for threads that are due for the handshake of this number, which is open alone: its targets aren't looked through, and
-// nothing is to be told behind it.
+// As `list_each`, for threads that are due for the handshake of this number, which is open alone. So its targets aren't
+// searched, and nothing is pending after it.
 #[inline(always)]
 fn list_alone<N: Name, J: HandshakeOp>(
     desk: &mut Desk<N, J>,
@@ -272,8 +273,8 @@ fn list_alone<N: Name, J: HandshakeOp>(
     false
 }
 
-// Lists each thread that is due, and what each is to be told next, as far as there is room in either list. Answers whether any is to be
-// told more, or there may be more than there is room for.
+// Lists the due threads and the next pending operation of each, as far as the lists have room. Returns whether more is
+// pending for any, or may be more than there is room for.
 #[inline(always)]
 pub(crate) fn list_untold<N: Name, J: HandshakeOp>(
     desk: &mut Desk<N, J>,

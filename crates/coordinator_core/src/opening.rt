@@ -1,4 +1,4 @@
-//! Opening the oldest request that waits, where nothing is open.
+//! Opens the oldest waiting request if none is open.
 ghost use Rattle.std.specs.Prelude.{◌≡◌, ◌⊎◌, [], ℕ, Some, IfSome, IfNone};
 ghost use Rattle.desk.specs.declared.entries.Entry.{Entry};
 ghost use Rattle.desk.specs.Machine.{Stands};
@@ -10,7 +10,8 @@ use desk::Desk;
 use operations::Kind;
 use operations::job::HandshakeOp;
 
-/// The kind of the oldest open request. Where nothing is open, the oldest that waits is opened first; None where nothing waits either.
+/// Returns the kind of the oldest open request. If none is open, first opens the oldest waiting one. None if none waits
+/// either.
 #[tactic(auto, using(crate::proofs::Opens::open_behind))]
 pub fn open_or_go_on<N: Name, J: HandshakeOp>(desk: &mut Desk<N, J>) -> Option<Kind>
     ensures open { IfSome result (λ kind. open_kind (at desk.new) ≡ Some kind) }

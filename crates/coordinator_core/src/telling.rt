@@ -1,4 +1,4 @@
-//! Telling a name: its job, or the mark of a census, goes into the room of its thread, and the thread's place is armed.
+//! Arms a thread by its name: puts its job, or the mark of a census, into its room, and arms its place.
 ghost use Rattle.std.specs.Prelude.{◌≡◌, ◌<◌, ◌≤◌, None, slice_index, IfSome, IfNone, IfOk, IfErr, OnSome};
 ghost use Rattle.thread_state.specs.PollRule.{armed_with};
 ghost use Rattle.berths.specs.Berths.{acted};
@@ -18,7 +18,7 @@ use operations::job::HandshakeOp;
 use poll::PollRow;
 use stopped_threads::{Found, TellFault, Told, look_up};
 
-// The job of the name in the operation: the one in hand where it is that, or with none in hand the desk's. Another one stays in hand.
+// The operation's job for the name: the one in hand or, with none in hand, the desk's. Another job stays in hand.
 fn job_in<N: Name, J: HandshakeOp>(
     desk: &mut Desk<N, J>,
     untold: &PendingOp,
@@ -47,8 +47,8 @@ fn job_in<N: Name, J: HandshakeOp>(
 }
 
 impl<N: Name> CoordinatorCore<N> {
-    /// What the thread of the name is to be told next; or what telling the name comes to without. None where the desk names a place that
-    /// there isn't.
+    /// Finds the oldest open request to arm the named thread for. None if the desk names a place that doesn't exist.
+    /// The error is the result of `tell` if nothing is to be armed.
     pub fn look_up<J: HandshakeOp>(
         &self,
         desk: &Desk<N, J>,
@@ -78,9 +78,10 @@ impl<N: Name> CoordinatorCore<N> {
         }
     }
 
-    /// The job of what was looked up, or the mark of the census, goes into the room of its place, and the place is armed. Answers the
-    /// receipt of the one or the other. None where its thread isn't there, and nothing is armed. A job that came out of the desk and finds
-    /// no room is in hand then, and goes in by the next call for it.
+    /// Puts the job of the found request, or the mark of the census, into its room, and arms the place. Returns the
+    /// receipt of the job or mark. None if the room doesn't bear the name, or the job is missing or has no room:
+    /// nothing is armed. A job that came out of the desk and has no room stays in hand, and the next call for it uses
+    /// it.
     pub fn put<J: HandshakeOp>(
         &mut self,
         desk: &mut Desk<N, J>,

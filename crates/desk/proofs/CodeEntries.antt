@@ -1,4 +1,4 @@
--- The codes stay the keeper's view.
+-- The codes still match the keeper's view.
 use Rattle.std.proofs.Common.{◌≡◌, ◌≢◌, ℕ, zero, suc, ◌+◌, ◌<◌, Bool, true, false, not, cond, List, [], length, Option, Some, None, sym, refl, ap, ◌∙◌, ⊎_elim, subst, arith, length-set, get_or, get_or-set_same, get_or-set_other}
 use Rattle.std.proofs.lemmas.List.{length-replicate, get_or-replicate}
 use Rattle.std.specs.Prelude.{◌&&◌, ◌==◌, slice_get, option_map, IfSome}
@@ -27,14 +27,14 @@ use Rattle.desk.specs.CodeBoard.{CodesSeen, Weighs, KeeperWeighs, LooksBelow, Ar
 use Rattle.method_table.specs.Entries.{entry_state, first_of, newest_in}
 use Rattle.desk.proofs.Newest.{map_at, push_at, at_low, same_at, found_passes, find_place, any_none_at, newest_push, newest_with, newest_place, in_state_slot}
 
--- what stands in a slot after a step on one
+-- the view of a slot after a step on a slot
 pub slot_here : (k : KeeperView) (i : ℕ) (s : SlotView) (made : StepMade) → i < length k.slots → slot_of (with_slot k i s made) i ≡ s
 slot_here k i s made low = get_or-set_same k.slots i s empty_slot low
 
 pub slot_there : (k : KeeperView) (i j : ℕ) (s : SlotView) (made : StepMade) → j ≢ i → slot_of (with_slot k i s made) j ≡ slot_of k j
 slot_there k i j s made ne = get_or-set_other k.slots i j s empty_slot ne
 
--- a code that isn't freed, by its serial
+-- an unfreed code by its serial
 pub unfreed_parts : (codes : List Code) (serial : ℕ) (code : Code) → unfreed codes serial ≡ Some code → (i : ℕ) × (slice_get codes i ≡ Some code) × (code.serial ≡ serial) × (takes_slot code.state ≡ true)
 unfreed_parts codes serial code is =
     let p = find_place (λ (c : Code). (c.serial == serial) && takes_slot c.state) codes code is in
@@ -50,7 +50,7 @@ stands t k serial code are table is =
     let e : IsEntry (Some code) (slot_of k code.slot) = subst (λ o. IsEntry o (slot_of k code.slot)) (are.newest u.0 code u.1 u.3) (are.entries code.slot low) in
     (low, u.2, e.0, e.1)
 
--- a slot that is free is vacant, with a lesser serial
+-- a free slot is vacant, with a lesser serial
 pub free_is : (t : TableView) (slot : ℕ) → free_slot t.codes t.slots ≡ Some slot → (n : ℕ) (a : Code) → slice_get t.codes n ≡ Some a → a.slot ≡ slot → takes_slot a.state ≡ false
 free_is t slot free n a x e =
     ⊎_elim (λ d. absurd (eqb-false a.slot slot d e)) (λ d. d)
@@ -74,7 +74,7 @@ vacant_at t k slot are table free low = by (newest_in t.codes slot) refl (are.en
         let s = table.serials p.0 c p.1 in let l = at_low t.codes p.0 c p.1 in
         (h.1 ∙ freed_vacant c.state (free_is t slot free p.0 c p.1 p.2), (let a = h.0 in omega arith))
 
--- nothing was installed
+-- no code is installed
 pub none_yet : (t : TableView) (k : KeeperView) (slots split : ℕ) → t.codes ≡ [] → t.slots ≡ slots → k ≡ keeper_view slots split → AreEntries t k
 none_yet t k slots split no_code size is = record {
   sizes = ap (λ (v : KeeperView). length v.slots) is ∙ (length-replicate slots empty_slot ∙ sym size);
@@ -127,7 +127,7 @@ installed t t' k k' method slot id made are free low is at serial view = subst (
     fresh : (c : Code) → new ≡ c → newest_in (with_code t.codes method slot) c.slot ≡ Some c
     fresh c e = same c.slot (ap (λ (z : Code). z.slot) e) ∙ ap Some e
 
--- a code comes into a state
+-- a code changes its state
 pub changed : (t t' : TableView) (k k' : KeeperView) (serial : ℕ) (code : Code) (st : CodeState) (s : SlotView) (made : StepMade) → AreEntries t k → IsTable t → unfreed t.codes serial ≡ Some code
     → t' ≡ with_codes t (with_state t.codes serial st) → k' ≡ with_slot k code.slot s made → s.serial ≡ code.serial → s.state ≡ entry_state st → AreEntries t' k'
 changed t t' k k' serial code st s made are table unfreed_is is view serial_is state_is = subst (λ v. AreEntries v k') (sym is) (subst (AreEntries (with_codes t (with_state t.codes serial st))) (sym view) (record {
@@ -189,7 +189,7 @@ changed t t' k k' serial code st s made are table unfreed_is is view serial_is s
         newest_with t.codes serial st c.slot
         ∙ (ap (option_map (in_state serial st)) (ap (newest_in t.codes) slot_is ∙ are.newest i x h (ap (λ (z : Code). takes_slot z.state) (sym is_x) ∙ takes)) ∙ ap Some m)
 
--- the keeper learns of a slot what leaves its code
+-- a step on a slot that leaves its code unchanged
 pub noted : (t : TableView) (k k' : KeeperView) (i : ℕ) (s : SlotView) (made : StepMade) → AreEntries t k → i < t.slots → k' ≡ with_slot k i s made → s.serial ≡ (slot_of k i).serial → s.state ≡ (slot_of k i).state → AreEntries t k'
 noted t k k' i s made are low view serial_is state_is = subst (AreEntries t) (sym view) (record {
   sizes = length-set k.slots i s ∙ are.sizes;
@@ -208,7 +208,7 @@ noted t k k' i s made are low view serial_is state_is = subst (AreEntries t) (sy
     is_entry None a b h p q = (p ∙ h.0, q ∙ h.1)
     is_entry (Some c) a b h p q = (p ∙ h.0, q ∙ h.1)
 
--- what a call of the table tells of its code
+-- an accepted call determines the state of its code
 pub may_invalidate : (c : Code) → invalidate_fault (Some c) ≡ None → entry_state c.state ≡ entry.InUse
 may_invalidate c h = by c.state h
   where
@@ -236,16 +236,16 @@ may_free c h = by c.state h
     by state.Zombie h = refl
     by state.Freed h = cc
 
--- the keeper has the code in that state
+-- the keeper knows that state of the code
 pub is_in : (t : TableView) (k : KeeperView) (serial : ℕ) (code : Code) (e : EntryState) → AreEntries t k → IsTable t → unfreed t.codes serial ≡ Some code → entry_state code.state ≡ e → (code.slot < t.slots) × IsIn k (id_of code) e
 is_in t k serial code e are table is at = let s = stands t k serial code are table is in (s.0, (s.2, s.3 ∙ at))
 
--- the keeper looked at places
+-- the keeper looked at all places below one
 pub looked_below : (t : TableView) (id : CodeId) (places : ℕ) (k k' : KeeperView) → AreEntries t k → id.slot < t.slots → LooksBelow id places k k' → AreEntries t k'
 looked_below t id zero k k' are low is = subst (AreEntries t) (sym is) are
 looked_below t id (suc p) k k' are low h = noted t h.0 k' id.slot (slot_with_look (slot_of h.0 id.slot) p h.2) (made.LoadPlace id p h.2) (looked_below t id p k h.0 are low h.1) low h.3 refl refl
 
--- the moment alone moves
+-- only the moment changes
 pub went_on : (t : TableView) (k k' : KeeperView) → AreEntries t k → k'.slots ≡ k.slots → AreEntries t k'
 went_on t k k' are same = record {
   sizes = ap (λ (l : List SlotView). length l) same ∙ are.sizes;
@@ -253,17 +253,17 @@ went_on t k k' are same = record {
   newest = are.newest;
 }
 
--- what the keeper knows after a weighing
+-- the keeper's view after a weighing
 pub keeper_weighs : (places serial : ℕ) (id : CodeId) (old new : CodesSeen) (said : Weighed) → Weighs places serial id old new said → KeeperWeighs places id old.keeper new.keeper said
 keeper_weighs places serial id old new (NotLooked p) w = w.0
 keeper_weighs places serial id old new (Used n) w = w.0
 keeper_weighs places serial id old new Clear w = (w.0, w.1, w.2)
 
--- Two options that are one.
+-- Two equal options have equal names.
 same_id : (a : CodeId) (c : Code) → ◌≡◌ {A = Option CodeId} (Some a) (Some (id_of c)) → a ≡ id_of c
 same_id a c e = cc
 
--- The code that an install replaces is in use in its entry.
+-- The entry of the replaced code is in use.
 pub replaced_in : (t : TableView) (k : KeeperView) (method : ℕ) (r : Option CodeId) → AreEntries t k → IsTable t → r ≡ option_map id_of (in_use_for t.codes method) → IfSome r (λ old. (old.slot < t.slots) × IsIn k old entry.InUse)
 replaced_in t k method r are table is = by (in_use_for t.codes method) refl r is
   where
@@ -275,7 +275,7 @@ replaced_in t k method r are table is = by (in_use_for t.codes method) refl r is
         let state_in : entry_state c.state ≡ entry.InUse = may_invalidate c (let used = state_is t table method c e in rw used refl) in
         subst (λ (d : CodeId). (d.slot < t.slots) × IsIn k d entry.InUse) (sym (same_id a c same)) (is_in t k c.serial c entry.InUse are table u state_in)
 
--- The codes are the keeper's view after an install, whatever code it replaces.
+-- The codes match the keeper's view after an install, whatever it replaces.
 pub installed_over : (t t' : TableView) (k k' : KeeperView) (method slot : ℕ) (id : CodeId) (r : Option CodeId) → AreEntries t k → IsTable t → free_slot t.codes t.slots ≡ Some slot → slot < t.slots → r ≡ option_map id_of (in_use_for t.codes method)
     → t' ≡ with_codes t (with_code (without_use t.codes (in_use_for t.codes method)) method slot) → id.slot ≡ slot → id.serial ≡ next_serial t.codes → k' ≡ stored r k id → AreEntries t' k'
 installed_over t t' k k' method slot id r are table free low is next at serial view = by (in_use_for t.codes method) refl r is next view

@@ -1,4 +1,4 @@
--- Lists in which no name stands twice.
+-- Lists of distinct names.
 use Rattle.std.proofs.Common.{◌≡◌, ◌≢◌, ℕ, zero, suc, ◌<◌, ◌≤◌, ◌+◌, Bool, true, false, not, cond, List, [], ◌∷◌, length, get_or, refl, sym, ap, ◌∙◌, arith}
 use Rattle.std.specs.Prelude.{◌&&◌, ◌||◌, ◌==◌, nat_le, filter, drop}
 use Rattle.std.specs.List.{remove}
@@ -19,7 +19,7 @@ is_not : (b : Bool) → not b ≡ true → b ≡ false
 is_not false h = refl
 is_not true h = cc
 
--- a name that isn't among them isn't among a part of them
+-- a name that isn't in the list isn't in a part of it
 not_in_part : (p : ℕ → Bool) (n : ℕ) (ns : List ℕ) → among n ns ≡ false → among n (filter p ns) ≡ false
 not_in_part p n [] h = refl
 not_in_part p n (x ∷ xs) h = let parts = or_none (x == n) (among n xs) h in by (p x) parts.0 (not_in_part p n xs parts.1)
@@ -38,14 +38,14 @@ distinct_part p (x ∷ xs) h =
     by true here rest = ap (λ b. not b && is_distinct (filter p xs)) here ∙ rest
     by false here rest = rest
 
--- one that isn't among them takes nothing off
+-- removing an absent name changes nothing
 pub none_off : (name : ℕ) (ns : List ℕ) → among name ns ≡ false → ns ≡ others name ns
 none_off name [] h = refl
 none_off name (x ∷ xs) h =
     let parts = or_none (x == name) (among name xs) h in
     ap (λ l. x ∷ l) (none_off name xs parts.1) ∙ sym (ap (λ b. cond (not b) (x ∷ others name xs) (others name xs)) parts.0)
 
--- without the one at its place, the others are left
+-- removing the name at its index leaves the others
 pub one_off : (name i : ℕ) (ns : List ℕ) → is_distinct ns ≡ true → i < length ns → get_or ns i 0 ≡ name → remove ns i ≡ others name ns
 one_off name i [] h low here = absurd (omega arith)
 one_off name zero (x ∷ xs) h low here =
@@ -61,18 +61,18 @@ one_off name (suc i) (x ∷ xs) h low here =
     ap (λ l. x ∷ l) (one_off name i xs parts.1 below here)
     ∙ sym (ap (λ b. cond (not b) (x ∷ others name xs) (others name xs)) (ne_eqb x name ne))
 
--- none of them is the name
+-- a name at no index isn't in the list
 pub none_among : (name : ℕ) (ns : List ℕ) → ((k : ℕ) → k < length ns → get_or ns k 0 ≢ name) → among name ns ≡ false
 none_among name [] none = refl
 none_among name (x ∷ xs) none =
     ap (λ b. b || among name xs) (ne_eqb x name (none 0 (omega arith))) ∙ none_among name xs (λ k low. none (suc k) (omega arith))
 
--- good targets stand once each
+-- valid targets are distinct
 pub targets_distinct : (r : Request) → are_targets r ≡ true → is_distinct (targets_of r) ≡ true
 targets_distinct Census h = refl
 targets_distinct (Handshake targets ask) h = (and_parts _ (is_distinct targets) h).1
 
--- there are few of them, and so few entries between the Open and the Close
+-- valid targets are few, and so are the entries between Open and Close
 pub few_steps : (r : Request) → are_targets r ≡ true → steps_of r ≤ 64
 few_steps Census h = omega arith
 few_steps (Handshake targets ask) h = at_most (length targets) (and_parts _ (is_distinct targets) h).0
@@ -80,14 +80,14 @@ few_steps (Handshake targets ask) h = at_most (length targets) (and_parts _ (is_
     at_most : (n : ℕ) → nat_le n 64 ≡ true → n ≤ 64
     at_most n h = grind (arith, nat_tests)
 
--- what is left behind the first few, without the one at its place
+-- the list after the first g names, without the name at an index
 pub drop_remove : (ns : List ℕ) (g i j : ℕ) → g ≤ length ns → j ≡ g + i → drop g (remove ns j) ≡ remove (drop g ns) i
 drop_remove ns zero i j low is = let same : j ≡ i = omega arith in ap (remove ns) same
 drop_remove [] (suc g) i j low is = absurd (omega arith)
 drop_remove (x ∷ xs) (suc g) i zero low is = absurd (omega arith)
 drop_remove (x ∷ xs) (suc g) i (suc j) low is = drop_remove xs g i j (omega arith) (omega arith)
 
--- where the first behind the first few is the name, those behind it are the others
+-- if the name after the first g names is this one, the others follow it
 pub first_off : (name : ℕ) (ns : List ℕ) (g j d : ℕ) → j ≡ g + 1 → is_distinct (drop g ns) ≡ true → g < length ns → get_or ns g d ≡ name → drop j ns ≡ others name (drop g ns)
 first_off name [] g j d is h low here = absurd (omega arith)
 first_off name (x ∷ xs) zero zero d is h low here = absurd (omega arith)

@@ -1,4 +1,5 @@
--- Who is due for an open request is one of its targets, and where a handshake is open alone, it is to be told that.
+-- A thread due for an open request is one of its targets, and its poll is to be armed for a handshake that is open
+-- alone.
 use Rattle.std.proofs.Common.{◌≡◌, ℕ, List, [], ◌∷◌, ◌++◌, Bool, true, false, not, cond, Some, None, refl, sym, ap, ◌∙◌}
 use Rattle.std.specs.Prelude.{◌&&◌, ◌||◌, ◌==◌, nat_lt, filter}
 use Rattle.std.specs.List.{list_any}
@@ -13,7 +14,7 @@ use Rattle.desk.specs.Machine.{Asked, Current, State, step, start, after_from, a
 use Rattle.desk.specs.Targets.{is_due_target, is_target_of, number_of, only_handshake, untold_in, untold_of}
 use Rattle.desk.specs.DueTold.{DueAreTold}
 
--- one that is among a part of the names is among them
+-- a name in a part of the list is in the list
 in_whole : (p : ℕ → Bool) (name : ℕ) (ns : List ℕ) → among name (filter p ns) ≡ true → among name ns ≡ true
 in_whole p name [] h = h
 in_whole p name (x ∷ ns) h = by (p x) (x == name) refl (in_whole p name ns) h
@@ -81,7 +82,7 @@ or_false : (b : Bool) → (b || false) ≡ true → b ≡ true
 or_false true e = refl
 or_false false e = e
 
--- the only request is untold where its number is greater
+-- the only request is untold if its number is greater
 untold_alone : (next name last n : ℕ) (c : Current) → is_target_of next name c ≡ true → c.number ≡ n → untold_in next name last (c ∷ []) ≡ untold_of n last
 untold_alone next name last n c target same =
     ap (λ b. number_of (cond (b && nat_lt last c.number) (Some c) None)) target ∙ by (nat_lt last c.number) ∙ ap (λ k. untold_of k last) same

@@ -1,4 +1,4 @@
--- The jobs that are left of open requests.
+-- The jobs left of open requests.
 use Rattle.std.proofs.Common.{◌≡◌, ◌≢◌, ℕ, zero, suc, ◌+◌, ◌<◌, List, [], ◌∷◌, true, false, cond, Some, None, length, map, refl, sym, ap, ◌∙◌, subst, arith}
 use Rattle.std.specs.Prelude.{◌&&◌, ◌||◌, ◌==◌, Option, IfSome, IfNone, OnSome, slice_get, slice_set}
 use Rattle.std.specs.List.{remove}
@@ -31,7 +31,7 @@ fitting whom asks Census [] h = refl
 fitting whom asks Census (j ∷ js) h = let none = eqb-true (suc (length js)) 0 h in absurd (omega arith)
 fitting whom asks (Handshake targets ask) jobs h = fit_for whom asks targets ask jobs h
 
--- the first job of the name is taken out
+-- the first job of the name is removed
 pub first_taken : {J : Type 0} (whom : J → ℕ) (name i : ℕ) (jobs : List J) (j : J) → ((k : ℕ) (x : J) → k < i → slice_get jobs k ≡ Some x → whom x ≢ name) → slice_get jobs i ≡ Some j → whom j ≡ name
     → (map whom (remove jobs i) ≡ without_first name (map whom jobs)) × (among name (map whom jobs) ≡ true)
 first_taken whom name i [] j none here is = cc
@@ -44,7 +44,7 @@ first_taken whom name (suc i) (x ∷ xs) j none here is =
     let r = first_taken whom name i xs j (λ k y l h. none (suc k) y (omega arith) h) here is in
     (ap (λ ns. whom x ∷ ns) r.0 ∙ sym (ap (λ b. cond b (map whom xs) (whom x ∷ without_first name (map whom xs))) ne), ap (λ b. b || among name (map whom xs)) ne ∙ r.1)
 
--- one more isn't of the name
+-- one more job isn't of the name
 pub next_not : {J : Type 0} (whom : J → ℕ) (name i : ℕ) (jobs : List J) (x : J) → ((k : ℕ) (j : J) → k < i → slice_get jobs k ≡ Some j → whom j ≢ name) → slice_get jobs i ≡ Some x → whom x ≢ name
     → (k : ℕ) (j : J) → k < i + 1 → slice_get jobs k ≡ Some j → whom j ≢ name
 next_not whom name i jobs x none here ne k j low there is =
@@ -52,7 +52,7 @@ next_not whom name i jobs x none here ne k j low there is =
     (λ e. ne (ap whom (same_at jobs i x j here (subst (λ n. slice_get jobs n ≡ Some j) e there)) ∙ is))
     (λ other. none k j (omega arith) there is)
 
--- there is none
+-- no job is of the name
 pub none_taken : {J : Type 0} (whom : J → ℕ) (name : ℕ) (jobs : List J) → ((k : ℕ) (x : J) → k < length jobs → slice_get jobs k ≡ Some x → whom x ≢ name)
     → (map whom jobs ≡ without_first name (map whom jobs)) × (among name (map whom jobs) ≡ false)
 none_taken whom name [] none = (refl, refl)
@@ -61,7 +61,7 @@ none_taken whom name (x ∷ xs) none =
     let r = none_taken whom name xs (λ k y l h. none (suc k) y (omega arith) h) in
     (ap (λ ns. whom x ∷ ns) r.0 ∙ sym (ap (λ b. cond b (map whom xs) (whom x ∷ without_first name (map whom xs))) ne), ap (λ b. b || among name (map whom xs)) ne ∙ r.1)
 
--- an open request changes, and its jobs stay
+-- an open request changes, and its jobs are unchanged
 pub set_left : {J : Type 0} (whom : J → ℕ) (i : ℕ) (os : List (Opened J)) (o o' : Opened J) → slice_get os i ≡ Some o → o'.jobs ≡ o.jobs → o'.number ≡ o.number
     → map (jobs_left whom) (slice_set os i o') ≡ map (jobs_left whom) os
 set_left whom i [] o o' here same number = cc
@@ -70,7 +70,7 @@ set_left whom zero (x ∷ os) o o' here same number =
     λ k. record { number = (number ∙ ap (λ (z : Opened _). z.number) is) k; names = map whom ((same ∙ ap (λ (z : Opened _). z.jobs) is) k).items } ∷ map (jobs_left whom) os
 set_left whom (suc i) (x ∷ os) o o' here same number = ap (λ l. jobs_left whom x ∷ l) (set_left whom i os o o' here same number)
 
--- the jobs of the open request at a place
+-- the jobs left of the open request at an index
 pub left_at : {J : Type 0} (whom : J → ℕ) (n i : ℕ) (os : List (Opened J)) (o : Opened J) → IsIndex n os (Some i) → slice_get os i ≡ Some o → left_of n (map (jobs_left whom) os) ≡ names_left whom o
 left_at whom n i [] o is h = cc
 left_at whom n zero (x ∷ os) o is h =
@@ -79,7 +79,7 @@ left_at whom n zero (x ∷ os) o is h =
 left_at whom n (suc i) (x ∷ os) o is h =
     ap (λ b. cond b (names_left whom x) (left_of n (map (jobs_left whom) os))) (ne_eqb x.number n (is.1 0 x (omega arith) refl)) ∙ left_at whom n i os o (later n i x os is) h
 
--- none is of the number
+-- no open request has this number
 pub left_not : {J : Type 0} (whom : J → ℕ) (n : ℕ) (os : List (Opened J)) → IsIndex n os None → left_of n (map (jobs_left whom) os) ≡ []
 left_not whom n [] is = refl
 left_not whom n (x ∷ os) is =
@@ -92,7 +92,7 @@ taken_not whom n name (x ∷ os) is =
     ap (λ b. cond b (record { number = x.number; names = without_first name (names_left whom x) } ∷ js) (jobs_left whom x ∷ job_taken n name js)) (ne_eqb x.number n (is 0 x refl))
     ∙ ap (λ l. jobs_left whom x ∷ l) (taken_not whom n name os (λ k o h. is (suc k) o h))
 
--- a job is taken out of the open request at a place
+-- a job of the open request at an index is removed
 pub taken_at : {J : Type 0} (whom : J → ℕ) (n name i : ℕ) (os : List (Opened J)) (o o' : Opened J) → IsIndex n os (Some i) → slice_get os i ≡ Some o → o'.number ≡ o.number → names_left whom o' ≡ without_first name (names_left whom o)
     → map (jobs_left whom) (slice_set os i o') ≡ job_taken n name (map (jobs_left whom) os)
 taken_at whom n name i [] o o' is h number e = cc
@@ -106,13 +106,13 @@ taken_at whom n name (suc i) (x ∷ os) o o' is h number e =
     ap (λ l. jobs_left whom x ∷ l) (taken_at whom n name i os o o' (later n i x os is) h number e)
     ∙ sym (ap (λ b. cond b (record { number = x.number; names = without_first name (names_left whom x) } ∷ js) (jobs_left whom x ∷ job_taken n name js)) (ne_eqb x.number n (is.1 0 x (omega arith) refl)))
 
--- and nothing else of the open requests changes
+-- nothing else of the open requests changes
 pub set_same : {J : Type 0} (i : ℕ) (os : List (Opened J)) (o o' : Opened J) → slice_get os i ≡ Some o → current_of o' ≡ current_of o → map current_of (slice_set os i o') ≡ map current_of os
 set_same i [] o o' h e = cc
 set_same zero (x ∷ os) o o' h e = let same : o ≡ x = cc in ap (λ c. c ∷ map current_of os) (e ∙ ap current_of same)
 set_same (suc i) (x ∷ os) o o' h e = ap (λ l. current_of x ∷ l) (set_same i os o o' h e)
 
--- the open request at a place goes
+-- the open request at an index is removed
 pub closed_at : {J : Type 0} (whom : J → ℕ) (n i : ℕ) (os : List (Opened J)) → IsIndex n os (Some i) → map (jobs_left whom) (remove os i) ≡ jobs_closed n (map (jobs_left whom) os)
 closed_at whom n i [] is = absurd (let a = is.0 in omega arith)
 closed_at whom n zero (x ∷ os) is = sym (ap (λ b. cond b (map (jobs_left whom) os) (jobs_left whom x ∷ jobs_closed n (map (jobs_left whom) os))) (eq-eqb x.number n (is.2 x refl)))
@@ -120,7 +120,7 @@ closed_at whom n (suc i) (x ∷ os) is =
     ap (λ l. jobs_left whom x ∷ l) (closed_at whom n i os (later n i x os is))
     ∙ sym (ap (λ b. cond b (map (jobs_left whom) os) (jobs_left whom x ∷ jobs_closed n (map (jobs_left whom) os))) (ne_eqb x.number n (is.1 0 x (omega arith) refl)))
 
--- what an answer has, it has by what follows
+-- a fact of a result follows from another
 pub some_also : {A : Type 0} (P Q : A → Type 0) (r : Option A) → ((a : A) → P a → Q a) → IfSome r P → IfSome r Q
 some_also P Q None f h = tt
 some_also P Q (Some a) f h = f a h

@@ -51,7 +51,7 @@ pub legal-push : (slots methods : ℕ) (h : List Entry) (e : Entry) → is_legal
 unfolding after is_legal
 legal-push slots methods h e legal may = legal_from-push (start slots methods) h e legal may
 
--- what has to be shown of an entry
+-- the conditions of a new entry
 record Entered {J : Type 0} (d d' : Fields J) (e : Entry) : Type 0 where
   slots : d'.table.slots ≡ d.table.slots
   methods : d'.table.methods ≡ d.table.methods
@@ -62,7 +62,7 @@ record Entered {J : Type 0} (d d' : Fields J) (e : Entry) : Type 0 where
   fit : AreFit (map current_of d'.opened)
   distinct : AreDistinct (map current_of d'.opened)
 
--- what is kept stays so with one entry more
+-- one more entry preserves the invariant
 keeps : {J : Type 0} {d d' : Fields J} (e : Entry) → IsKept d → Entered d d' e → IsKept d'
 keeps {d = d} {d' = d'} e k n = record {
   legal = (λ i. is_legal (n.slots i) (n.methods i) (n.history i)) ∙ legal-push d.table.slots d.table.methods d.book.history e k.legal (ap (λ (t : State). lawful t e) k.state ∙ n.may);
@@ -72,7 +72,7 @@ keeps {d = d} {d' = d'} e k n = record {
   distinct = n.distinct;
 }
 
--- nothing was entered so far
+-- no entry yet
 pub empty : {J : Type 0} (d : Fields J) → d.book.history ≡ [] → start d.table.slots d.table.methods ≡ state_of d → IsKept d
 unfolding after is_legal
 empty d none first = record {
@@ -151,7 +151,7 @@ due_opened before ls a = by a.request
     by Census = omega arith
     by (Handshake targets ask) = let l = filter_le (λ (t : ℕ). is_live t ls) targets in omega arith
 
--- the request that is opened is the oldest that waits
+-- the opened request is the oldest waiting one
 pub record OpensIt {J : Type 0} (d : Fields J) (w : Waiting (Carried J)) (o : Opened J) : Type 0 where
   pub number : o.number ≡ w.number
   pub request : o.request ≡ w.request
@@ -186,7 +186,7 @@ open_keeps {d = d} whom b queue opened w o k are none is there_is opens there ke
       carried.1,
     )
 
--- the open request of a number, and where it stands
+-- the open request with this number, and its index
 pub record Found {J : Type 0} (opened : List (Opened J)) (n : ℕ) (o : Opened J) : Type 0 where
   pub place : ℕ
   pub index : IsIndex n opened (Some place)
@@ -195,7 +195,7 @@ pub record Found {J : Type 0} (opened : List (Opened J)) (n : ℕ) (o : Opened J
 pub found_is : {J : Type 0} {opened : List (Opened J)} {n : ℕ} {o : Opened J} → Found opened n o → open_of n (map current_of opened) ≡ Some (current_of o)
 found_is {opened = opened} {n = n} {o = o} f = open_at n f.place opened o f.index f.here
 
--- it alone changes, into another
+-- only this request changes
 pub record Changed {J : Type 0} (f : Current → Current) (n : ℕ) (old new : List (Opened J)) (o : Opened J) : Type 0 where
   pub found : Found old n o
   pub made : Opened J
@@ -205,14 +205,14 @@ pub record Changed {J : Type 0} (f : Current → Current) (n : ℕ) (old new : L
 pub changed_is : {J : Type 0} {f : Current → Current} {n : ℕ} {old new : List (Opened J)} {o : Opened J} → Changed f n old new o → map current_of new ≡ at_number f n (map current_of old)
 changed_is {f = f} {n = n} {old = old} {o = o} c = ap (map current_of) c.set ∙ set_at f n c.found.place old o c.made c.found.index c.found.here c.is
 
--- a change takes one of the entries that are kept for the request, and no name is due twice then
+-- a change uses one of the request's reserved entries, and the due names stay distinct
 record Spends (f : Current → Current) (c : Current) : Type 0 where
   number : (f c).number ≡ c.number
   left : (f c).left + 1 ≡ c.left
   fit : due_of (f c) ≤ (f c).left
   distinct : is_distinct c.due ≡ true → is_distinct (f c).due ≡ true
 
--- an entry that changes the open request of its number
+-- an entry that changes the open request with its number
 changes : {J : Type 0} {d : Fields J} {o : Opened J} (b : Book) (e : Entry) (f : Current → Current) (n : ℕ) (opened : List (Opened J))
     → IsKept d → Changed f n d.opened opened o → Spends f (current_of o)
     → lawful (state_of d) e ≡ true → step (state_of d) e ≡ record (state_of d) { opened = at_number f n (map current_of d.opened) }
@@ -235,11 +235,11 @@ changes {d = d} {o = o} b e f n opened k c spends may next there kept =
       distinct = subst AreDistinct (sym os_is) (distinct_at f n (map current_of d.opened) (current_of o) k.distinct found (spends.distinct once));
     }
 
--- no name is due of an open request twice
+-- the due names of an open request are distinct
 pub due_once : {J : Type 0} {d : Fields J} {n : ℕ} {o : Opened J} → IsKept d → Found d.opened n o → is_distinct o.due.items ≡ true
 due_once {d = d} {n = n} {o = o} k found = distinct_of n (map current_of d.opened) (current_of o) k.distinct (found_is found)
 
--- there is room for the entries of an open request
+-- room is reserved for the entries of an open request
 pub open_room : {J : Type 0} {d : Fields J} {n : ℕ} {o : Opened J} → IsKept d → Found d.opened n o → (due_of (current_of o) ≤ o.left) × (1 + o.left ≤ d.book.reserved)
 open_room {d = d} {n = n} {o = o} k found =
     let is = found_is found in
@@ -250,7 +250,7 @@ due_left name c h fit =
     let less = filter_less (λ (x : ℕ). x == name) c.due h in
     record { number = refl; left = omega arith; fit = omega arith; distinct = distinct_part (λ (t : ℕ). not (t == name)) c.due }
 
--- where one is due, an entry is left
+-- while a name is due, an entry is left
 pub due_entry : (name : ℕ) (c : Current) → is_due name c ≡ true → due_of c ≤ c.left → 0 < c.left
 due_entry name c h fit = let d = due_left name c h fit in omega (arith, d.left)
 
@@ -282,7 +282,7 @@ operate_keeps {d = d} {o = o} b n opened k c may there kept =
     let spends = operate_left (current_of o) may (fit_of n (map current_of d.opened) (current_of o) k.fit found).1 in
     changes b (Operate n) as_operated n opened k c spends (ap (passes may_operate) found ∙ may) refl there kept
 
--- the Close of one that may be closed is lawful
+-- the Close of a request that may be closed is lawful
 pub close_is : {J : Type 0} {d : Fields J} {n : ℕ} {o : Opened J} → IsKept d → Found d.opened n o → may_close d.live (current_of o) ≡ true → lawful (state_of d) (Close n) ≡ true
 close_is {d = d} k found may = ap (passes (may_close d.live)) (found_is found) ∙ may
 
@@ -304,7 +304,7 @@ close_keeps {d = d} {n = n} {o = o} b opened k found is may there kept =
       distinct = subst AreDistinct (sym gone) (distinct_without n (map current_of d.opened) k.distinct);
     }
 
--- what stays is kept
+-- open requests with the same state preserve the invariant
 pub same_keeps : {J : Type 0} {d : Fields J} (opened : List (Opened J)) → IsKept d → map current_of opened ≡ map current_of d.opened → IsKept (record d { opened = opened })
 same_keeps {d = d} opened k same = record {
   legal = k.legal;
@@ -314,7 +314,7 @@ same_keeps {d = d} opened k same = record {
   distinct = subst AreDistinct (sym same) k.distinct;
 }
 
--- entries that codes can still make
+-- the entries that codes can make
 needs_of_codes-push : (cs : List Code) (c : Code) → needs_of_codes (cs ++ c ∷ []) ≡ needs_of_codes cs + states_left c.state
 needs_of_codes-push [] c = omega arith
 needs_of_codes-push (x ∷ cs) c = let r = needs_of_codes-push cs c in omega arith
@@ -349,7 +349,7 @@ needs_changed first (suc i) s st (x ∷ cs) c n h e =
     let a : states_left (in_state s st x).state ≡ states_left x.state = ap (λ (z : Code). states_left z.state) (in_state_other s st x there) in
     let r = needs_changed (first + 1) i s st cs c (tail_numbered first x cs n) h e in omega arith
 
--- where no code is in use for the method and it may have one, and the code takes the free slot and the next serial
+-- the method has no code in use and may have one, and the code gets the free slot and the next serial
 record Installs (t : TableView) (method : ℕ) (id : CodeId) : Type 0 where
   free : free_slot t.codes t.slots ≡ Some id.slot
   serial : id.serial ≡ next_serial t.codes
@@ -377,7 +377,7 @@ install_keeps {d = d} {id = id} b method t k i is there kept =
       distinct = k.distinct;
     }
 
--- there is room for the entries of a code
+-- room is reserved for the entries of a code
 pub code_room : {J : Type 0} {d : Fields J} (serial : ℕ) (code : Code) → IsKept d → IsTable d.table → unfreed d.table.codes serial ≡ Some code → states_left code.state ≤ d.book.reserved
 code_room {d = d} serial code k table is =
     let u = unfreed_parts d.table.codes serial code is in
@@ -413,7 +413,7 @@ left_invalidate c h = by c.state h
     by state.Zombie h = cc
     by state.Freed h = cc
 
--- a code is installed, whatever it replaces: the method may have one, and it takes the free slot and the next serial
+-- an install, whatever it replaces: the method may have a code, which gets the free slot and the next serial
 pub record Replaces (t : TableView) (method : ℕ) (old : Option CodeId) (id : CodeId) : Type 0 where
   pub table : IsTable t
   pub free : free_slot t.codes t.slots ≡ Some id.slot
@@ -421,7 +421,7 @@ pub record Replaces (t : TableView) (method : ℕ) (old : Option CodeId) (id : C
   pub may : install_fault t method ≡ None
   pub replaced : old ≡ option_map id_of (in_use_for t.codes method)
 
--- once the code in use is left, no other is in use
+-- after the code in use leaves use, the method has no other in use
 left_installs : (t : TableView) (method : ℕ) (replaced : Option CodeId) (id : CodeId) (c : Code) → Replaces t method replaced id → in_use_for t.codes method ≡ Some c
     → Installs (with_codes t (with_state t.codes c.serial state.NotEntrant)) method id
 left_installs t method replaced id c r e = record {
@@ -500,7 +500,7 @@ pub enters_by : {old new : DeskSeen} {receipt : Stands} (s : State) (e : Entry) 
     → new.book.gone ≡ old.book.gone → new.slots ≡ old.slots → new.methods ≡ old.methods → Enters old new e receipt
 enters_by s e is may history receipt gone slots methods = record { lawful_is = ap (λ (t : State). lawful t e) is ∙ may; history_is = history; receipt_is = receipt; gone_stays = gone; sizes_stay = (slots, methods) }
 
--- a Finish is lawful, or not
+-- when a Finish is lawful
 pub finish_is : {J : Type 0} {d : Fields J} {n : ℕ} {o : Opened J} (name reply : ℕ) (b least : Bool)
     → IsKept d → Found d.opened n o → b ≡ (is_due name (current_of o) && is_live name d.live) → least ≡ is_least n name (map current_of d.opened)
     → lawful (state_of d) (Finish n name reply) ≡ (b && least)
@@ -510,7 +510,7 @@ finish_is {d = d} {n = n} name reply b least kept found is least_is =
 pub finish_not : {J : Type 0} {d : Fields J} (n name reply : ℕ) → IsKept d → IsIndex n d.opened None → lawful (state_of d) (Finish n name reply) ≡ false
 finish_not {d = d} n name reply kept none = ap (λ x. (passes (is_due name) x && is_live name d.live) && is_least n name (map current_of d.opened)) (none_at n d.opened none)
 
--- the oldest that may be operated
+-- the oldest request may be operated
 pub may_operate_is : {J : Type 0} (os : List (Opened J)) (o : Opened J) → front_is (λ c. is_census c.request) (map current_of os) true → front_is (λ c. c.operated) (map current_of os) false → slice_get os 0 ≡ Some o → may_operate (current_of o) ≡ true
 may_operate_is os o census fresh here = both_true _ _ (front_at (λ c. is_census c.request) true os o census here) (ap not (front_at (λ c. c.operated) false os o fresh here))
 

@@ -1,4 +1,4 @@
--- Looking for a live name by halves, where live names rise.
+-- Binary search of a live name, since live names rise.
 use Rattle.std.proofs.Common.{◌≡◌, ℕ, zero, suc, ◌+◌, ◌<◌, ◌≤◌, List, [], ◌∷◌, Bool, true, false, cond, Some, refl, sym, ap, ◌∙◌, subst, arith}
 use Rattle.std.specs.Prelude.{◌&&◌, ◌||◌, ◌==◌, slice_get, slice_index_or, drop}
 use Rattle.std.specs.List.{list_any}
@@ -10,7 +10,7 @@ use Rattle.desk.specs.Rising.{AreRising}
 use Rattle.desk.specs.Targets.{is_due_target, is_due_name, live_after}
 use Rattle.desk.proofs.Rising.{live_names_rise}
 
--- a name of the list is no less than the least
+-- a name of the list is at least the least
 no_less : (least i : ℕ) (ls : List Live) (l : Live) → AreRising least (names_of ls) → slice_get ls i ≡ Some l → least ≤ l.name
 no_less least i [] l r here = cc
 no_less least zero (x ∷ ls) l r here =
@@ -18,7 +18,7 @@ no_less least zero (x ∷ ls) l r here =
     subst (λ (y : Live). least ≤ y.name) same r.0
 no_less least (suc i) (x ∷ ls) l r here = let k = no_less (x.name + 1) i ls l r.1 here in let h = r.0 in omega arith
 
--- a name that stands in the list is live
+-- a listed name is live
 pub there_lives : (name i : ℕ) (ls : List Live) (l : Live) → slice_get ls i ≡ Some l → l.name ≡ name → is_live name ls ≡ true
 there_lives name i [] l here is = cc
 there_lives name zero (x ∷ ls) l here is =
@@ -26,7 +26,7 @@ there_lives name zero (x ∷ ls) l here is =
     ap (λ b. b || is_live name ls) (eq-eqb x.name name (ap (λ (y : Live). y.name) same ∙ is))
 there_lives name (suc i) (x ∷ ls) l here is = or_right (x.name == name) (is_live name ls) (there_lives name i ls l here is)
 
--- its place is where the name is live
+-- the listed place is the name's place
 pub place_there : (least name i : ℕ) (ls : List Live) (l d : Live) → AreRising least (names_of ls) → slice_get ls i ≡ Some l → l.name ≡ name → Some (slice_index_or ls i d).place ≡ place_of name ls
 place_there least name i [] l d r here is = cc
 place_there least name zero (x ∷ ls) l d r here is =
@@ -49,7 +49,7 @@ below_due least name cs (x ∷ ls) r low =
     ap (λ b. (b && list_any (is_due_target x) cs) || is_due_name name cs ls) (ne_eqb x.name name (λ e. absurd (omega arith)))
     ∙ below_due (x.name + 1) name cs ls r.1 (omega arith)
 
--- it is due where the thread there is
+-- the name is due if and only if the thread at its index is
 pub due_there : (least name i : ℕ) (cs : List Current) (ls : List Live) (l d : Live) → AreRising least (names_of ls) → slice_get ls i ≡ Some l → l.name ≡ name
     → list_any (is_due_target (slice_index_or ls i d)) cs ≡ is_due_name name cs ls
 due_there least name i cs [] l d r here is = cc
@@ -76,7 +76,7 @@ above_until least name (suc i) (x ∷ ls) l r here is =
     above_until (x.name + 1) name i ls l r.1 here is
     ∙ sym (ap (λ b. cond b (Some x.name) (live_after name ls)) (le-ltb name x.name (omega arith)))
 
--- the least name above it stands behind it
+-- the least greater name comes after it
 pub above_behind : (least name i : ℕ) (ls : List Live) (l : Live) → AreRising least (names_of ls) → slice_get ls i ≡ Some l → l.name ≡ name
     → live_after name (drop (i + 1) ls) ≡ live_after name ls
 above_behind least name i ls l r here is =

@@ -54,7 +54,7 @@ any_push : {A : Type 0} (p : A → Bool) (xs : List A) (x : A) → list_any p xs
 any_push p [] x e f = neither _ _ f refl
 any_push p (y ∷ xs) x e f = let q = or_false _ _ e in neither _ _ q.0 (any_push p xs x q.1 f)
 
--- what holds of each member and of a new one
+-- a fact of each member and of a new one
 any_pushed : {A : Type 0} (p : A → Bool) (P : Type 0) (xs : List A) (x : A) → (list_any p xs ≡ true → P) → (p x ≡ true → P) → list_any p (xs ++ x ∷ []) ≡ true → P
 any_pushed p P [] x f g e = by (p x) refl
   where
@@ -76,7 +76,7 @@ owes_one n name c = (c.number == n) && among name c.due
 abbrev owes : ℕ → ℕ → List Current → Bool
 owes n name cs = list_any (owes_one n name) cs
 
--- no Finish of this operation and name can come any more
+-- no Finish of this operation and name can follow
 record Spent (n name next : ℕ) (ws : List Asked) (cs : List Current) : Type 0 where
   below : n < next
   waits_not : waits n ws ≡ false
@@ -90,7 +90,7 @@ abbrev Apart : List Current → Type 0
 Apart [] = Unit {0}
 Apart (c ∷ cs) = (is_open c.number cs ≡ false) × Apart cs
 
--- numbers rise: those that wait or are open are below the next, each once
+-- the numbers that wait or are open are distinct and below the next
 record Sound (next : ℕ) (ws : List Asked) (cs : List Current) : Type 0 where
   below : (n : ℕ) → waits n ws ≡ true → n < next
   open_below : (n : ℕ) → is_open n cs ≡ true → n < next
@@ -98,7 +98,7 @@ record Sound (next : ℕ) (ws : List Asked) (cs : List Current) : Type 0 where
   once : Distinct ws
   alone : Apart cs
 
--- a list with some members left out has no others
+-- a part of a list has no other members
 among_filter : (p : ℕ → Bool) (x : ℕ) (ts : List ℕ) → among x ts ≡ false → among x (filter p ts) ≡ false
 among_filter p x [] e = refl
 among_filter p x (t ∷ ts) e =
@@ -106,7 +106,7 @@ among_filter p x (t ∷ ts) e =
     let r = among_filter p x ts q.1 in
     elim (p t) as (λ b. among x (cond b (t ∷ filter p ts) (filter p ts)) ≡ false) [ true ↦ (ap (λ b. b || among x (filter p ts)) q.0 ∙ r) | false ↦ r ]
 
--- and not the one that is left out
+-- the removed name isn't in the list
 among_others : (x : ℕ) (ts : List ℕ) → among x (others x ts) ≡ false
 among_others x [] = refl
 among_others x (t ∷ ts) =
@@ -175,7 +175,7 @@ sound_at f n next ws cs keep s = record {
   alone = apart_at f n cs keep s.alone;
 }
 
--- an open request goes
+-- an open request is removed
 open_less : (n k : ℕ) (cs : List Current) → is_open k cs ≡ false → is_open k (without_number n cs) ≡ false
 open_less n k [] e = refl
 open_less n k (c ∷ cs) e = let q = or_false (c.number == k) (is_open k cs) e in by (c.number == n) q.0 q.1 (open_less n k cs q.1)
@@ -221,7 +221,7 @@ sound_step s (Invalidate a) l k = k
 sound_step s (Retire a) l k = k
 sound_step s (Free a) l k = k
 
--- a change of one open request that owes no more afterwards
+-- a change of an open request that owes no more after it
 owes_at : (f : Current → Current) (m n name : ℕ) (cs : List Current) → ((c : Current) → owes_one n name c ≡ false → owes_one n name (f c) ≡ false) → owes n name cs ≡ false → owes n name (at_number f m cs) ≡ false
 owes_at f m n name [] keep e = refl
 owes_at f m n name (c ∷ cs) keep e = let q = or_false (owes_one n name c) (owes n name cs) e in by (c.number == m) q.0 q.1 (owes_at f m n name cs keep q.1)
@@ -264,7 +264,7 @@ spent_step s (Invalidate a) n name l k = k
 spent_step s (Retire a) n name l k = k
 spent_step s (Free a) n name l k = k
 
--- where a Finish is lawful, it is owed
+-- a lawful Finish is owed
 passes_owes : (n name : ℕ) (cs : List Current) → passes (is_due name) (open_of n cs) ≡ true → owes n name cs ≡ true
 passes_owes n name [] h = absurd (let k : false ≡ true = h in cc)
 passes_owes n name (c ∷ cs) h = by (c.number == n) refl h (passes_owes n name cs)
@@ -284,7 +284,7 @@ open_owes n name cs h = by (is_open n cs) refl
     by true e = e
     by false e = absurd (let r = owes_open n name cs e in cc)
 
--- after its Finish it isn't owed
+-- after the Finish it isn't owed
 owes_gone : (n name : ℕ) (cs : List Current) → Apart cs → owes n name (at_number (finished name) n cs) ≡ false
 owes_gone n name [] d = refl
 owes_gone n name (c ∷ cs) d = by (c.number == n) refl (owes_gone n name cs d.1)
@@ -320,7 +320,7 @@ none_more s (e ∷ es) n name l k =
     let i : F (is_finish n name e) ≡ 0 = ap F (is_not s e n name p.0 k) in
     omega (arith, i, r)
 
--- after a Finish it is spent
+-- after a Finish no other can follow
 spends : (n name next : ℕ) (ws : List Asked) (cs : List Current) → Sound next ws cs → owes n name cs ≡ true → Spent n name next ws (at_number (finished name) n cs)
 spends n name next ws cs s h =
     let here = open_owes n name cs h in

@@ -43,7 +43,7 @@ open_at n zero (x ∷ os) o is h =
 open_at n (suc i) (x ∷ os) o is h =
     there_is n x.number (Some (current_of x)) (open_of n (map current_of os)) (is.1 0 x (omega arith) refl) ∙ open_at n i os o (later n i x os is) h
 
--- what the open request of the number asks
+-- the ask of the open request with this number
 pub asked_at : {J : Type 0} (n i : ℕ) (ask : Ask) (os : List (Opened J)) (o : Opened J) → IsIndex n os (Some i) → slice_get os i ≡ Some o → is_asked_by n ask (map current_of os) ≡ asks_it ask o.request
 asked_at n i ask os o is h = ap (passes (λ c. asks_it ask c.request)) (open_at n i os o is h)
 
@@ -62,7 +62,7 @@ set_at f n (suc i) (x ∷ os) o o' is h e =
     ap (λ cs. current_of x ∷ cs) (set_at f n i os o o' (later n i x os is) h e)
     ∙ sym (there_is n x.number (f (current_of x) ∷ map current_of os) (current_of x ∷ at_number f n (map current_of os)) (is.1 0 x (omega arith) refl))
 
--- how many entries are kept for the open requests, and that they are enough
+-- enough entries are reserved for the open requests
 pub needs_at : (f : Current → Current) (n : ℕ) (cs : List Current) (c : Current) → open_of n cs ≡ Some c → needs_of_opened (at_number f n cs) + c.left ≡ needs_of_opened cs + (f c).left
 needs_at f n [] c h = cc
 needs_at f n (x ∷ cs) c h = by (x.number == n) h (needs_at f n cs c)
@@ -105,7 +105,7 @@ pub needs_push : (cs : List Current) (c : Current) → needs_of_opened (cs ++ c 
 needs_push [] c = omega arith
 needs_push (x ∷ cs) c = let r = needs_push cs c in omega arith
 
--- the open request at the place goes
+-- the open request at an index is removed
 pub removed_at : {J : Type 0} (n i : ℕ) (os : List (Opened J)) → IsIndex n os (Some i) → map current_of (remove os i) ≡ without_number n (map current_of os)
 removed_at n i [] is = absurd (let a = is.0 in omega arith)
 removed_at n zero (x ∷ os) is = sym (ap (λ b. cond b (map current_of os) (current_of x ∷ without_number n (map current_of os))) (eq-eqb x.number n (is.2 x refl)))
@@ -113,14 +113,14 @@ removed_at n (suc i) (x ∷ os) is =
     ap (λ cs. current_of x ∷ cs) (removed_at n i os (later n i x os is))
     ∙ sym (there_is n x.number (map current_of os) (current_of x ∷ without_number n (map current_of os)) (is.1 0 x (omega arith) refl))
 
--- where an open request stands, by its own number
+-- an open request has the same index by its own number
 pub own_index : {J : Type 0} (n i : ℕ) (os : List (Opened J)) (o : Opened J) → IsIndex n os (Some i) → slice_get os i ≡ Some o → IsIndex o.number os (Some i)
 own_index n i os o is h = subst (λ k. IsIndex k os (Some i)) (sym (is.2 o h)) is
 
 pub first_index : {J : Type 0} (os : List (Opened J)) (o : Opened J) → slice_get os 0 ≡ Some o → 0 < length os → IsIndex o.number os (Some 0)
 first_index os o here low = (low, (λ k x l h. absurd (omega arith)), (λ x h. ap (λ (z : Opened _). z.number) (same_at os 0 x o h here)))
 
--- one that stands there is open
+-- the request at an index is open
 pub open_is : {J : Type 0} (n i : ℕ) (os : List (Opened J)) (o : Opened J) → IsIndex n os (Some i) → slice_get os i ≡ Some o → is_open n (map current_of os) ≡ true
 open_is n i [] o is h = cc
 open_is n zero (x ∷ os) o is h = ap (λ b. b || is_open n (map current_of os)) (eq-eqb x.number n (is.2 x refl))
@@ -135,7 +135,7 @@ pub oldest_is : {J : Type 0} (os : List (Opened J)) (o : Opened J) → slice_get
 oldest_is [] o h = cc
 oldest_is (x ∷ os) o h = let same : x ≡ o = cc in ap (λ (z : Opened _). Some (current_of z)) same
 
--- what is tested of the oldest
+-- a test of the oldest open request
 pub front_there : {J : Type 0} (test : Current → Bool) (b : Bool) (os : List (Opened J)) → front_is test (map current_of os) b → 0 < length os
 front_there test b [] h = grind (arith)
 front_there test b (x ∷ os) h = omega arith
@@ -144,11 +144,11 @@ pub front_at : {J : Type 0} (test : Current → Bool) (b : Bool) (os : List (Ope
 front_at test b [] o h here = cc
 front_at test b (x ∷ os) o h here = let same : x ≡ o = cc in ap (λ (z : Opened _). test (current_of z)) (sym same) ∙ h
 
--- the one at the place is chosen
+-- the request at the index is the chosen one
 abbrev pub IsChosen : {J : Type 0} → Option ℕ → List (Opened J) → ℕ → Type 0
 IsChosen number os i = (i < length os) × ((o : Opened _) → slice_get os i ≡ Some o → IsIndex o.number os (Some i) × (chosen number (map current_of os) ≡ Some (current_of o)))
 
--- which one is chosen by its number
+-- the request chosen by its number
 pub chosen_some : {J : Type 0} (n : ℕ) (os : List (Opened J)) (found : Option ℕ) → IsIndex n os found
     → IfSome found (λ i. (i < length os) × ((o : Opened J) → slice_get os i ≡ Some o → IsIndex o.number os (Some i) × (chosen (Some n) (map current_of os) ≡ Some (current_of o))))
 chosen_some n os None is = tt
@@ -158,7 +158,7 @@ pub chosen_none : {J : Type 0} (n : ℕ) (os : List (Opened J)) (found : Option 
 chosen_none n os None is = none_at n os is
 chosen_none n os (Some i) is = tt
 
--- the oldest request that waits
+-- the oldest waiting request
 pub awaits_at : {J : Type 0} (q : List (Waiting (Carried J))) (w : Waiting (Carried J)) → slice_get q 0 ≡ Some w → awaits_census (map asked_of q) ≡ is_census w.request
 awaits_at [] w h = cc
 awaits_at (x ∷ q) w h = let same : x ≡ w = cc in ap (λ (z : Waiting (Carried _)). is_census z.request) same
@@ -167,7 +167,7 @@ pub awaits_none : {J : Type 0} (q : List (Waiting (Carried J))) → slice_get q 
 awaits_none [] h = refl
 awaits_none (x ∷ q) h = cc
 
--- where one more may be opened, few are
+-- if one more may be opened, fewer than four are open
 pub few_open : {J : Type 0} (q : List (Waiting (Carried J))) (os : List (Opened J)) → may_open_more (map asked_of q) (map current_of os) ≡ true → length os < 4
 few_open q os h =
     let n : length (map current_of os) ≡ length os = length-map os current_of in
@@ -176,13 +176,13 @@ few_open q os h =
     lt_is : (a b : ℕ) → nat_lt a b ≡ true → a < b
     lt_is a b e = grind (arith, nat_tests)
 
--- something stands below the length
+-- each index below the length has an item
 pub there_at : {X : Type 0} (xs : List X) (i : ℕ) → i < length xs → (x : X) × (slice_get xs i ≡ Some x)
 there_at [] i low = absurd (omega arith)
 there_at (x ∷ xs) zero low = (x, refl)
 there_at (x ∷ xs) (suc i) low = there_at xs i (omega arith)
 
--- one less to fit
+-- the reserved entries are enough without one request
 pub fit_without : (n : ℕ) (cs : List Current) → AreFit cs → AreFit (without_number n cs)
 fit_without n [] fit = tt
 fit_without n (x ∷ cs) fit = by (x.number == n) (fit_without n cs fit.2)
@@ -191,7 +191,7 @@ fit_without n (x ∷ cs) fit = by (x.number == n) (fit_without n cs fit.2)
     by true rest = fit.2
     by false rest = (fit.0, fit.1, rest)
 
--- what is due of each stays distinct
+-- the due names of each request stay distinct
 pub distinct_of : (n : ℕ) (cs : List Current) (c : Current) → AreDistinct cs → open_of n cs ≡ Some c → is_distinct c.due ≡ true
 distinct_of n [] c all h = cc
 distinct_of n (x ∷ cs) c all h = by (x.number == n) h (distinct_of n cs c all.1)

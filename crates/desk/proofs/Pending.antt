@@ -1,4 +1,4 @@
--- No reply can come of a request before the least that is open or waits.
+-- No reply can follow to a request before the least pending one.
 use Rattle.std.proofs.Common.{◌≡◌, ℕ, ◌+◌, ◌-◌, ◌<◌, ◌≤◌, List, [], ◌∷◌, ◌++◌, Bool, true, false, map, drop, length, refl, sym, ap, ◌∙◌, subst, arith, cond}
 use Rattle.std.specs.Prelude.{◌==◌, ◌||◌, min, nat_le, slice_get, Some, None}
 use Rattle.std.specs.List.{list_any}
@@ -20,7 +20,7 @@ use Rattle.desk.proofs.Rising.{AllBelow, and_true, same, rising_push, below_push
 abbrev pub numbers_of : List Asked → List ℕ
 numbers_of ws = map (λ (a : Asked). a.number) ws
 
--- those that wait stand in rising order, below the next
+-- the waiting numbers rise and are below the next
 pub record Queued (next : ℕ) (ws : List Asked) : Type 0 where
   pub rising : AreRising 0 (numbers_of ws)
   pub below : AllBelow next (numbers_of ws)
@@ -58,7 +58,7 @@ pub are_queued : (slots methods : ℕ) (h : List Entry) → is_legal slots metho
 unfolding is_legal after
 are_queued slots methods h l = queued_after (start slots methods) h l (record { rising = tt; below = tt })
 
--- what waits owes nothing before the first
+-- a number before the first waiting one owes nothing
 owed_rest : (n least : ℕ) (ws : List Asked) → AreRising least (numbers_of ws) → n < least → owed_waiting n ws ≡ 0
 owed_rest n least [] r low = refl
 owed_rest n least (a ∷ ws) r low =
@@ -71,7 +71,7 @@ waiting_none : (n next : ℕ) (ws : List Asked) → AreRising 0 (numbers_of ws) 
 waiting_none n next [] r low = refl
 waiting_none n next (a ∷ ws) r low = owed_rest n a.number (a ∷ ws) (omega arith, r.1) low
 
--- nor does what is open before the least
+-- nor does a number before the least open one
 open_none : (n m : ℕ) (cs : List Current) → n < least_open m cs → (n < m) × (owed_opened n cs ≡ 0)
 open_none n m [] low = (low, refl)
 open_none n m (c ∷ cs) low =
@@ -106,7 +106,7 @@ pub first_none : {J : Type 0} (next : ℕ) (q : List (Waiting (Carried J))) → 
 first_none next [] h = refl
 first_none next (x ∷ q) h = cc
 
--- entries raise the least that is open or waits
+-- entries raise the least pending number
 open_first : (a b : ℕ) (cs : List Current) → a ≤ b → least_open a cs ≤ least_open b cs
 open_first a b [] le = le
 open_first a b (c ∷ cs) le = open_first (min a c.number) (min b c.number) cs (omega arith)
@@ -174,7 +174,7 @@ legal_more : (s : State) (h es : List Entry) → legal_from s (h ++ es) ≡ true
 legal_more s [] es l = l
 legal_more s (e ∷ h) es l = legal_more (step s e) h es (and_true _ _ l).1
 
--- so what was forgotten stays before it
+-- so the forgotten operations stay before it
 pub later_stays : {J : Type 0} {d d' : Fields J} (es : List Entry) → IsKept d → IsKept d' → d'.table.slots ≡ d.table.slots → d'.table.methods ≡ d.table.methods
     → d'.book.history ≡ d.book.history ++ es → d'.book.gone ≡ d.book.gone → d.book.gone.operations < least_pending (state_of d) → d'.book.gone.operations < least_pending (state_of d')
 unfolding is_legal after
@@ -188,11 +188,11 @@ later_stays {d = d} {d' = d'} es k k' slots methods history gone later =
     let new : least_pending (after_from (after_from first d.book.history) es) ≡ least_pending (state_of d') = ap least_pending (sym (after_more first d.book.history es) ∙ sym whole ∙ k'.state) in
     let same : d'.book.gone.operations ≡ d.book.gone.operations = ap (λ (x : Gone). x.operations) gone in omega arith
 
--- those that wait stand in rising order
+-- the waiting numbers rise
 kept_queued : {J : Type 0} {d : Fields J} → IsKept d → Queued d.next_number (map asked_of d.queue)
 kept_queued {d = d} k = subst (λ (z : State). Queued z.next_number z.waiting) k.state (are_queued d.table.slots d.table.methods d.book.history k.legal)
 
--- a number that is open or waits is no less
+-- a pending number is at least the least
 open_above : (n m : ℕ) (cs : List Current) → is_open n cs ≡ true → least_open m cs ≤ n
 open_above n m [] h = absurd (let k : false ≡ true = h in cc)
 open_above n m (c ∷ cs) h = by (c.number == n) refl h (open_above n (min m c.number) cs)
@@ -233,7 +233,7 @@ pub at_first : {J : Type 0} (d : Fields J) → d.queue ≡ [] → d.opened ≡ [
 at_first d none none_open gone low =
     let e : least_pending (state_of d) ≡ d.next_number = λ i. least_open (first_waiting d.next_number (map asked_of (none i))) (map current_of (none_open i)) in omega arith
 
--- what is kept of replies, where those of the first operations are forgotten
+-- the replies left after those of the first operations are forgotten
 pub forget_room : {J : Type 0} {d : Fields J} (last : ℕ) (gone : Gone) (lists lists' : List Said)
     → IsKept d → HaveRoom d.book.gone d.next_number (map asked_of d.queue) (map current_of d.opened) lists
     → last ≡ least_pending (state_of d) - 1 → d.book.gone.operations < least_pending (state_of d) → gone.operations ≡ last → lists' ≡ drop (gone.operations - d.book.gone.operations) lists
@@ -270,7 +270,7 @@ forget_room {d = d} last gone lists lists' k have is later gone_is lists_is =
         let same = forgotten_rooms n d.book.gone.operations gone.operations lists lists' more high lists_is in
         let o = have.enough n in omega arith
 
--- the numbers before it were given out
+-- the numbers before the least pending one were given out
 pub given_out : {J : Type 0} {d : Fields J} (last : ℕ) (lists : List Said) → IsKept d → HaveRoom d.book.gone d.next_number (map asked_of d.queue) (map current_of d.opened) lists
     → last ≡ least_pending (state_of d) - 1 → last ≤ d.book.gone.operations + length lists
 given_out {d = d} last lists k have is =
@@ -278,7 +278,7 @@ given_out {d = d} last lists k have is =
     let most : least_pending (state_of d) ≤ d.next_number = pending_most (state_of d) queued in
     let z = have.count in omega arith
 
--- what is forgotten changes no entry
+-- forgetting changes no entry
 pub book_keeps : {J : Type 0} {d : Fields J} (b : Book) → IsKept d → b.history ≡ d.book.history → b.reserved ≡ d.book.reserved → IsKept (record d { book = b })
 book_keeps {d = d} b k history reserved = record {
   legal = ap (is_legal d.table.slots d.table.methods) history ∙ k.legal;

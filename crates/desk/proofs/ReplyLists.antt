@@ -29,7 +29,7 @@ get_said (suc k) [] list e = refl
 get_said zero (x ∷ xs) list e = refl
 get_said (suc k) (x ∷ xs) list e = get_said k xs list e
 
--- one operation more, without replies
+-- one more operation without replies
 pub more_lists : (gone : ℕ) (h : List Entry) (lists : List Said) (list : Said) (e : Entry) → AreReplies gone h lists → list.said ≡ [] → ((n : ℕ) → reply_in n e ≡ None) → AreReplies gone (h ++ e ∷ []) (lists ++ list ∷ [])
 more_lists gone h lists list e are empty none n low = by (n - gone) ((n - gone) == 0) ∙ same_lists gone h lists e are none n low
   where
@@ -37,7 +37,7 @@ more_lists gone h lists list e are empty none n low = by (n - gone) ((n - gone) 
     by k true = refl
     by k false = get_said (k - 1) lists list empty
 
--- where the list of a number stands
+-- the index of a number's list
 pub at_here : (n : ℕ) (lists : List Said) (x : Said) → 0 < n → n - 1 < length lists → of_number n (slice_set lists (n - 1) x) ≡ x
 at_here n lists x low is_in =
     ap (λ b. cond b nothing_said (get_or (slice_set lists (n - 1) x) (n - 1) nothing_said)) (ne_eqb n 0 (λ e. absurd (omega arith))) ∙ get_or-set_same lists (n - 1) x nothing_said is_in
@@ -54,7 +54,7 @@ get_in k [] h = absurd (omega arith)
 get_in zero (x ∷ xs) h = omega arith
 get_in (suc k) (x ∷ xs) h = let r = get_in k xs h in omega arith
 
--- where there is room there is a list
+-- an operation with room has a list
 pub in_lists : (n : ℕ) (lists : List Said) → 0 < (of_number n lists).room → (0 < n) × (n - 1 < length lists)
 in_lists n lists h = by (n == 0) refl h
   where
@@ -62,7 +62,7 @@ in_lists n lists h = by (n == 0) refl h
     by true e h = absurd (omega arith)
     by false e h = let above = eqb-false n 0 e in (omega arith, get_in (n - 1) lists h)
 
--- what is read there
+-- the list read at the index
 pub read_here : (n : ℕ) (lists : List Said) → 0 < n → of_number n lists ≡ get_or lists (n - 1) nothing_said
 read_here n lists low = ap (λ b. cond b nothing_said (get_or lists (n - 1) nothing_said)) (ne_eqb n 0 (λ f. absurd (omega arith)))
 
@@ -87,7 +87,7 @@ said_lists gone h lists x op name reply are low is_in more n behind = by (n == o
         let ne = eqb-false n op e in
         ap (λ (s : Said). s.said) (at_other (n - gone) (op - gone) lists x low (λ same. ne (omega arith))) ∙ are n behind ∙ sym (replies_same n h (Finish op name reply) (no_reply n op name reply ne))
 
--- it has room for one reply less
+-- the operation has room for one reply less
 pub less_room : (lists : List Said) (x : Said) (op : ℕ) → 0 < op → op - 1 < length lists → x.room + 1 ≡ (of_number op lists).room → HasLess op lists (slice_set lists (op - 1) x)
 less_room lists x op low is_in less = record {
   here = ap (λ (s : Said). s.room + 1) (at_here op lists x low is_in) ∙ less;

@@ -1,4 +1,4 @@
--- The room that is kept for replies.
+-- The room that is reserved for replies.
 use Rattle.std.proofs.Common.{◌≡◌, ◌≢◌, ℕ, zero, suc, ◌+◌, ◌-◌, ◌<◌, ◌≤◌, List, [], ◌∷◌, ◌++◌, Bool, true, false, cond, Some, length, refl, sym, ap, ◌∙◌, subst, arith, get_or, length-append}
 use Rattle.std.specs.Prelude.{◌==◌}
 use Rattle.std.proofs.lemmas.Bool.{eq-eqb, ne_eqb, eqb-true, eqb-false}
@@ -11,7 +11,7 @@ use Rattle.desk.proofs.ReplyLists.{in_lists}
 pub same_room : {gone gone' : Gone} {num : ℕ} {q : List Asked} {cs : List Current} {lists lists' : List Said} → HaveRoom gone num q cs lists → lists' ≡ lists → gone' ≡ gone → HaveRoom gone' num q cs lists'
 same_room {gone = gone} {num = num} {q = q} {cs = cs} {lists' = lists'} have is same = subst (λ (g : Gone). HaveRoom g num q cs lists') (sym same) (subst (HaveRoom gone num q cs) (sym is) have)
 
--- how many replies come from the one, where it has the number
+-- the count if the number is this one, otherwise 0
 abbrev count_of : ℕ → ℕ → ℕ → ℕ
 count_of n number count = cond {A = ℕ} (number == n) count 0
 
@@ -95,7 +95,7 @@ open_room {gone = gone} num q q' cs cs' a c lists have is opened number fewer = 
       );
 }
 
--- what the open request of the number still owes, through a change of it
+-- the replies owed by the open request with this number, after a change of it
 owed_at : (f : Current → Current) (n m : ℕ) (cs : List Current) (c : Current) → open_of m cs ≡ Some c → ((d : Current) → (f d).number ≡ d.number)
     → owed_opened n (at_number f m cs) + count_of n c.number (length c.due) ≡ owed_opened n cs + count_of n c.number (length (f c).due)
 owed_at f n m [] c h keeps = cc
@@ -126,7 +126,7 @@ owed_one n (x ∷ cs) c h = by (x.number == n) refl h (owed_one n cs c)
     by true e h rest = let same : x ≡ c = cc in let a = ap (λ (z : Current). length z.due) same in omega arith
     by false e h rest = let r = rest h in omega arith
 
--- there is room for the reply of a target that is due
+-- room is reserved for the reply of a due target
 pub due_room : {gone : Gone} (num n name : ℕ) (q : List Asked) (cs : List Current) (c : Current) (lists : List Said)
     → HaveRoom gone num q cs lists → open_of n cs ≡ Some c → among name c.due ≡ true → 0 < (of_number (n - gone.operations) lists).room
 due_room {gone = gone} num n name q cs c lists have found due =

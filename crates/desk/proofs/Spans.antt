@@ -1,4 +1,4 @@
--- What is said in the spans of one list, through each change of it.
+-- The replies in the spans of one list, through each change of it.
 use Rattle.std.proofs.Common.{◌≡◌, ◌≢◌, ℕ, zero, suc, ◌+◌, ◌-◌, ◌<◌, ◌≤◌, List, [], ◌∷◌, ◌++◌, map, length, take, drop, get_or, refl, sym, ap, ◌∙◌, subst, arith, length-drop, length-append}
 use Rattle.std.proofs.lemmas.List.{drop-drop, drop-map, drop-append-le, take-append-le, drop-set-lt, drop-set-add, take-set-le, take_more_set, length-map, map-append}
 use Rattle.std.specs.Prelude.{slice_set}
@@ -9,7 +9,7 @@ use Rattle.desk.specs.Spans.{said_in, AreBehind, AreFew, silent, answered, earli
 abbrev end_of : Span → ℕ
 end_of s = s.start + (s.said + s.room)
 
--- what lies behind the spans makes no difference
+-- items after the spans change no span
 said_more : (all more : List (ℕ × ℕ)) (s : Span) → end_of s ≤ length all → said_in (all ++ more) s ≡ said_in all s
 said_more all more s is_in =
     let l = length-drop s.start all in
@@ -24,7 +24,7 @@ lists_more : (ss : List Span) (from : ℕ) (all more : List (ℕ × ℕ)) → Ar
 lists_more [] from all more h = refl
 lists_more (s ∷ ss) from all more h = (λ i. said_more all more s (from_to ss (end_of s) (length all) h.1) i ∷ lists_more ss (end_of s) all more h.1 i)
 
--- a span more behind the others, without replies
+-- one more span at the end, without replies
 abbrev fresh : ℕ → ℕ → Span
 fresh start room = record { start = start; said = 0; room = room }
 
@@ -53,14 +53,14 @@ get_lists all [] k d e low = absurd (omega arith)
 get_lists all (s ∷ ss) zero d e low = refl
 get_lists all (s ∷ ss) (suc k) d e low = get_lists all ss k d e (omega arith)
 
--- a span that was read lies between the ends
+-- a span that was read is between the ends
 pub read_in : (ss : List Span) (from to k : ℕ) (s : Span) → AreBehind from ss to → k < length ss → s ≡ get_or ss k s → (from ≤ s.start) × (end_of s ≤ to)
 read_in ss from to k s h low is = subst (λ (z : Span). (from ≤ z.start) × (end_of z ≤ to)) (sym is) (span_in ss from to k s h low)
 
 pub read_said : (all : List (ℕ × ℕ)) (ss : List Span) (k : ℕ) (s : Span) (e : Said) → k < length ss → s ≡ get_or ss k s → get_or (map (said_in all) ss) k e ≡ said_in all s
 read_said all ss k s e low is = get_lists all ss k s e low ∙ ap (said_in all) (sym is)
 
--- what is seen of the spans has as many places, and as much room in each
+-- the lists of replies have as many items as the spans, with the same room
 pub place_in : (all : List (ℕ × ℕ)) (ss : List Span) (lists : List Said) (k : ℕ) → map (said_in all) ss ≡ lists → k < length lists → k < length ss
 place_in all ss lists k is low = let l = ap (λ (l : List Said). length l) is in omega (arith, length-map ss (said_in all))
 
@@ -68,7 +68,7 @@ pub room_in : (all : List (ℕ × ℕ)) (ss : List Span) (lists : List Said) (k 
 room_in all ss lists k s is low read room =
     subst (λ (x : Said). 0 < x.room) (ap (λ (l : List Said). get_or l k nothing_said) (sym is) ∙ read_said all ss k s nothing_said low read) room
 
--- a reply in a place before a span or behind it makes no difference there
+-- a reply before or after a span doesn't change it
 said_after : (all : List (ℕ × ℕ)) (p : ℕ) (x : ℕ × ℕ) (s : Span) → p < s.start → said_in (slice_set all p x) s ≡ said_in all s
 said_after all p x s low = ap (λ (k : List (ℕ × ℕ)). record { said = take s.said k; room = s.room }) (drop-set-lt s.start all p x low)
 
@@ -88,7 +88,7 @@ lists_after (s ∷ ss) from to all p x h low =
     let first : p < s.start = (let l = h.0 in omega arith) in
     (λ i. said_after all p x s first i ∷ lists_after ss (end_of s) to all p x h.1 (omega (arith, first)) i)
 
--- a span with one reply more and one place less
+-- a span with one more reply and room for one less
 abbrev pub next : Span → Span
 next s = record { start = s.start; said = s.said + 1; room = s.room - 1 }
 
@@ -119,7 +119,7 @@ behind_set (y ∷ ss) from to zero s h low is room =
     (first, subst (λ n. AreBehind n ss to) same rest)
 behind_set (y ∷ ss) from to (suc k) s h low is room = (h.0, behind_set ss (end_of y) to k s h.1 (omega arith) is room)
 
--- the first spans are dropped, and with them the places before the others
+-- the first spans are dropped with their items
 behind_drop : (ss : List Span) (from to k : ℕ) (d : Span) → AreBehind from ss to → k < length ss → AreBehind (get_or ss k d).start (drop k ss) to
 behind_drop [] from to k d h low = absurd (omega arith)
 behind_drop (s ∷ ss) from to zero d h low = (refl, h.1)
@@ -143,7 +143,7 @@ lists_earlier (s ∷ ss) from to less all h low =
     let first : s.start ≡ from = h.0 in
     (λ i. said_earlier all less s (omega arith) i ∷ lists_earlier ss (end_of s) to less all h.1 (omega arith) i)
 
--- the span that is read there, and all that lies behind it
+-- the span read at an index, and all after it
 pub dropped_behind : (ss ss' : List Span) (all all' : List (ℕ × ℕ)) (k : ℕ) (s : Span) → AreBehind 0 ss (length all) → k < length ss → s ≡ get_or ss k s
     → ss' ≡ map (earlier s.start) (drop k ss) → all' ≡ drop s.start all → AreBehind 0 ss' (length all')
 dropped_behind ss ss' all all' k s h low read is all_is =
@@ -164,7 +164,7 @@ dropped_starts ss ss' to k s h low read is j d in_it =
     let from : AreBehind s.start ss' to = subst (λ (l : List Span). AreBehind s.start l to) (sym is) (subst (λ (z : Span). AreBehind z.start (drop k ss) to) (sym read) (behind_drop ss 0 to k s h low)) in
     (span_in ss' s.start to j d from in_it).0
 
--- an element that a loop hasn't come to is the one that was there
+-- an item that the loop hasn't reached is unchanged
 not_reached : {X : Type 0} (f : X → X) (xs : List X) (k : ℕ) (d : X) → k < length xs → get_or (map f (take k xs) ++ drop k xs) k d ≡ get_or xs k d
 not_reached f [] k d low = absurd (omega arith)
 not_reached f (x ∷ xs) zero d low = refl
@@ -176,7 +176,7 @@ mapped_so_far f xs ys k x low is read = sym (not_reached f xs k x low) ∙ ap (�
 pub dropped_below : (all : List (ℕ × ℕ)) (ss : List Span) (lists : List Said) (k n : ℕ) → map (said_in all) ss ≡ lists → k ≤ length lists → n ≡ length ss → k ≢ n → k < length ss
 dropped_below all ss lists k n is low len ne = let l = ap (λ (l : List Said). length l) is in let m = length-map ss (said_in all) in omega arith
 
--- no span has too many places, through each change
+-- no span has too much room, through each change
 few_behind : (ss : List Span) (s : Span) → AreFew ss → s.said + s.room ≤ 64 → AreFew (ss ++ s ∷ [])
 few_behind [] s h low = (low, tt)
 few_behind (x ∷ ss) s h low = (h.0, few_behind ss s h.1 low)

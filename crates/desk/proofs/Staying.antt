@@ -1,4 +1,4 @@
--- An entry of a thread or of codes leaves what is asked for as it is, and with it most of what a desk keeps.
+-- An entry of a thread or of codes leaves the requests unchanged, and with them most of a desk's invariant.
 use Rattle.std.proofs.Common.{◌≡◌, ℕ, ◌<◌, List, ◌++◌}
 use Rattle.method_table.specs.TableView.{TableView}
 use Rattle.desk.specs.declared.entries.Entry.{Entry}

@@ -1,4 +1,4 @@
--- A step that the walks of `src/ghost_history.rt` share. Assumes `Logic`.
+-- A shared step of the walks of `src/ghost_history.rt`. Assumes `Logic`.
 use Rattle.std.proofs.Common.{List, [], ◌∷◌, refl}
 use seplogic.Ra.Ura.{Ura}
 use mir.Val.{Val, vstruct, vnil}

@@ -1,4 +1,4 @@
--- The state that the desk's fields represent, and the invariants of the fields.
+-- The state that the desk's fields represent, and the fields' invariants.
 use Rattle.std.specs.Prelude.{◌≢◌, ◌<◌, Option, Some, None, slice_get, ◌≡◌, ℕ, ◌+◌, ◌≤◌, true, List, [], ◌∷◌, ◌++◌, length, map, if◌then◌else◌}
 use Rattle.frames.specs.declared.board_rule.KeeperView.{KeeperView}
 use Rattle.method_table.specs.TableView.{TableView}
@@ -25,7 +25,7 @@ asked_of w = record { number = w.number; request = w.request }
 abbrev pub current_of : {J : Type 0} → Opened J → Current
 current_of o = record { number = o.number; request = o.request; before = o.before; left = o.left; due = o.due.items; operated = o.operated }
 
--- the book of a desk, and the fields that represent the state after its history
+-- a desk's book, and the fields that represent the state after its history
 pub record Fields (J : Type 0) : Type 0 where
   pub book : Book
   pub next_name : ℕ
@@ -46,7 +46,7 @@ state_of d = record {
   table = d.table;
 }
 
--- a waiting request has a number, lists no target twice, and carries a job for each target and memory for all targets after the first
+-- a waiting request has a number, distinct targets, a job for each target, and memory for all targets after the first
 pub record IsCarried {J : Type 0} (whom : J → ℕ) (w : Waiting (Carried J)) : Type 0 where
   pub number : 0 < w.number
   pub room : length (targets_of w.request) ≤ w.load.room + 1
@@ -57,18 +57,18 @@ abbrev pub AreCarried : {J : Type 0} → (J → ℕ) → List (Waiting (Carried 
 AreCarried whom [] = Unit {0}
 AreCarried whom (w ∷ ws) = IsCarried whom w × AreCarried whom ws
 
--- the names for which an open request still has jobs, in the order of its targets
+-- the names for which an open request still has jobs, in the order of targets
 abbrev pub names_left : {J : Type 0} → (J → ℕ) → Opened J → List ℕ
 names_left whom o = map whom o.jobs.items
 
 abbrev pub jobs_left : {J : Type 0} → (J → ℕ) → Opened J → JobsLeft
 jobs_left whom o = record { number = o.number; names = names_left whom o }
 
--- how many entries the open request may still need before its Close
+-- how many entries the open request may need before its Close
 abbrev pub due_of : Current → ℕ
 due_of c = (if may_operate c then 1 else 0) + length c.due
 
--- an open request has a number, and at least as many entries are reserved for it as it may still need
+-- an open request has a number, and as many entries are reserved for it as it may need
 abbrev pub AreFit : List Current → Type 0
 AreFit [] = Unit {0}
 AreFit (c ∷ cs) = (0 < c.number) × (due_of c ≤ c.left) × AreFit cs
@@ -78,8 +78,8 @@ abbrev pub AreDistinct : List Current → Type 0
 AreDistinct [] = Unit {0}
 AreDistinct (c ∷ cs) = (is_distinct c.due ≡ true) × AreDistinct cs
 
--- the history is legal, the fields represent the state after it, room is reserved for all entries that may still follow, and the due names
--- of each open request are distinct
+-- the history is legal, the fields represent the state after it, room is reserved for all entries that may follow, and
+-- each open request has distinct due names
 pub record IsKept {J : Type 0} (d : Fields J) : Type 0 where
   pub legal : is_legal d.table.slots d.table.methods d.book.history ≡ true
   pub state : after d.table.slots d.table.methods d.book.history ≡ state_of d
@@ -87,7 +87,7 @@ pub record IsKept {J : Type 0} (d : Fields J) : Type 0 where
   pub fit : AreFit (map current_of d.opened)
   pub distinct : AreDistinct (map current_of d.opened)
 
--- the fields of a desk, the replies that it stores, the number of its places, the number of open requests, and for how many there is memory
+-- a desk's fields, stored replies, number of places, number of open requests, and memory for open requests
 pub record Inside (J : Type 0) : Type 0 where
   pub fields : Fields J
   pub lists : List Said
@@ -106,8 +106,8 @@ pub record IsDesk {J : Type 0} (whom : J → ℕ) (board_places : ℕ) (d : Insi
   pub replies : HaveRoom d.fields.book.gone d.fields.next_number (map asked_of d.fields.queue) (map current_of d.fields.opened) d.lists
   pub pending : d.fields.book.gone.operations < least_pending (state_of d.fields)
 
--- what contracts see of a desk: its history with the reserved room, the sizes, the keeper's view, and for each open request the names whose
--- jobs weren't taken
+-- a desk as contracts see it: the history with the reserved room, the sizes, the keeper's view, and for each open
+-- request the names whose jobs weren't taken
 pub record DeskSeen : Type 0 where
   pub book : Book
   pub slots : ℕ
@@ -115,11 +115,11 @@ pub record DeskSeen : Type 0 where
   pub keeper : KeeperView
   pub jobs : List JobsLeft
 
--- the state after its history
+-- the state after the desk's history
 abbrev pub at : DeskSeen → State
 at d = after d.slots d.methods d.book.history
 
--- The desk appends a lawful entry, whether or not room was reserved for it before, and the receipt is that of the entry.
+-- The desk appends a lawful entry and makes the entry's receipt. The entry may use room that was reserved before.
 pub record Enters (old new : DeskSeen) (entry : Entry) (receipt : Stands) : Type 0 where
   pub lawful_is : lawful (at old) entry ≡ true
   pub history_is : new.book.history ≡ old.book.history ++ entry ∷ []
@@ -127,17 +127,17 @@ pub record Enters (old new : DeskSeen) (entry : Entry) (receipt : Stands) : Type
   pub gone_stays : new.book.gone ≡ old.book.gone
   pub sizes_stay : (new.slots ≡ old.slots) × (new.methods ≡ old.methods)
 
--- The entries of an install: the Invalidate of the code that it replaces, if any, and then the Install.
+-- The entries of an install: an Invalidate of the replaced code, if any, and the Install.
 abbrev pub install_entries : Option CodeId → CodeId → ℕ → List Entry
 install_entries None code method = Install code method ∷ []
 install_entries (Some old) code method = Invalidate old.serial ∷ Install code method ∷ []
 
--- How many of these entries use room that was reserved before.
+-- How many of these entries use reserved room.
 abbrev pub kept_before : Option CodeId → ℕ
 kept_before None = 0
 kept_before (Some old) = 1
 
--- The desk appends the entries of an install, each lawful after those before it. The receipt is that of the last one.
+-- The desk appends the entries of an install, each lawful after those before it, and makes the receipt of the last one.
 pub record EntersInstall (old new : DeskSeen) (replaced : Option CodeId) (code : CodeId) (method : ℕ) (receipt : Stands) : Type 0 where
   pub legal_is : legal_from (at old) (install_entries replaced code method) ≡ true
   pub history_is : new.book.history ≡ old.book.history ++ install_entries replaced code method
@@ -150,7 +150,8 @@ abbrev pub IsIndex : {J : Type 0} → ℕ → List (Opened J) → Option ℕ →
 IsIndex n os None = (k : ℕ) (o : _) → slice_get os k ≡ Some o → o.number ≢ n
 IsIndex n os (Some i) = (i < length os) × ((k : ℕ) (o : _) → k < i → slice_get os k ≡ Some o → o.number ≢ n) × ((o : _) → slice_get os i ≡ Some o → o.number ≡ n)
 
--- The keeper looked for the unfreed code with this serial at each place below this one. Nothing else of the desk changed.
+-- The keeper looked for the unfreed code with this serial at each place below this one, and the desk has no other
+-- change.
 pub record LooksAtAll (serial places : ℕ) (old new : DeskSeen) : Type 0 where
   pub looks : (code : Code) × (unfreed (at old).table.codes serial ≡ Some code) × LooksBelow (id_of code) places old.keeper new.keeper
   pub book_stays : new.book ≡ old.book

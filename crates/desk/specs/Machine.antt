@@ -1,4 +1,5 @@
--- The list machine of the desk: entries, the state after them, and when a history is legal. Room says for how many entries room is kept.
+-- The list machine of the desk: its entries, the state after them, and legal histories. `Room.antt` counts the entries
+-- for which room is reserved.
 use Rattle.std.specs.Prelude.{ℕ, ◌+◌, ◌-◌, List, [], ◌∷◌, ◌++◌, Bool, true, false, ◌&&◌, not, ◌==◌, nat_lt, Option, Some, None, is_none, length, map, filter, find, if◌then◌else◌}
 use Rattle.std.specs.List.{list_any, list_all}
 use Rattle.method_table.specs.declared.CodeState.TheVariants as state
@@ -13,13 +14,13 @@ use Rattle.desk.specs.declared.entries.Live.{Live}
 use Rattle.desk.specs.declared.entries.Entry.{Entry}
 use Rattle.desk.specs.declared.entries.Entry.TheVariants.{Start, Exit, Ask, Open, Finish, Operate, Close, Install, Invalidate, Retire, Free}
 
--- a request that waits
+-- a waiting request
 pub record Asked : Type 0 where
   pub number : ℕ
   pub request : Request
 
--- an open request: the next name at its Open (only threads with lesser names were live then); how many entries it may still make before its
--- Close; its targets that were live at the Open and have no Finish yet; and whether it was operated
+-- an open request. `before` is the next name at its Open: only threads with lesser names were live then. `left` is how
+-- many entries it may make before its Close, and `due` the targets that were live at the Open and have no Finish
 pub record Current : Type 0 where
   pub number : ℕ
   pub request : Request
@@ -28,8 +29,8 @@ pub record Current : Type 0 where
   pub due : List ℕ
   pub operated : Bool
 
--- the next name and the next operation number to be given out; the live threads; the waiting and the open requests, each in the order of
--- their numbers; and the codes
+-- the next name and the next operation number; the live threads; the waiting and the open requests, in the order of
+-- numbers; and the codes
 pub record State : Type 0 where
   pub next_name : ℕ
   pub live : List Live
@@ -53,7 +54,7 @@ without name ls = filter (λ l. not (l.name == name)) ls
 abbrev pub others : (name : ℕ) → (names : List ℕ) → List ℕ
 others name ts = filter (λ t. not (t == name)) ts
 
--- the names that are live
+-- the live names
 abbrev pub names_of : List Live → List ℕ
 names_of ls = map (λ l. l.name) ls
 
@@ -62,7 +63,7 @@ abbrev pub place_of : (name : ℕ) → (live : List Live) → Option ℕ
 place_of name [] = None
 place_of name (l ∷ ls) = if l.name == name then Some l.place else place_of name ls
 
--- the names in the list that are live
+-- the live names of the list
 abbrev pub live_of : (live : List Live) → (names : List ℕ) → List ℕ
 live_of ls ts = filter (λ t. is_live t ls) ts
 
@@ -70,12 +71,12 @@ live_of ls ts = filter (λ t. is_live t ls) ts
 abbrev pub none_live : (live : List Live) → (names : List ℕ) → Bool
 none_live ls ts = list_all (λ t. not (is_live t ls)) ts
 
--- the targets that a request lists: none for a census, which has no Finish
+-- the targets of a request; none for a census, which has no Finish
 abbrev pub targets_of : Request → List ℕ
 targets_of Census = []
 targets_of (Handshake targets ask) = targets
 
--- the largest number of entries that a request makes between its Open and its Close
+-- how many entries a request can make between its Open and its Close
 abbrev pub steps_of : Request → ℕ
 steps_of Census = 1
 steps_of (Handshake targets ask) = length targets
@@ -99,7 +100,7 @@ abbrev pub awaits_census : (waiting : List Asked) → Bool
 awaits_census [] = false
 awaits_census (a ∷ rest) = is_census a.request
 
--- one more request may be opened: at most four handshakes may be open, or one census alone
+-- one more request may be opened. At most four handshakes are open, or one census alone
 abbrev pub may_open_more : (waiting : List Asked) → (opened : List Current) → Bool
 may_open_more waiting cs = nat_lt (length cs) 4 && (not (has_census cs) && not (awaits_census waiting && not (is_empty cs)))
 
@@ -110,16 +111,16 @@ open_of n cs = find (λ c. c.number == n) cs
 abbrev pub is_open : (number : ℕ) → (opened : List Current) → Bool
 is_open n cs = list_any (λ c. c.number == n) cs
 
--- there is such a request, and it passes the test
+-- the request exists and passes the test
 abbrev pub passes : (test : Current → Bool) → Option Current → Bool
 passes test None = false
 passes test (Some c) = test c
 
--- the Finish of the name is missing
+-- the name has no Finish
 abbrev pub is_due : (name : ℕ) → Current → Bool
 is_due name c = among name c.due
 
--- the name is due for no open request with a lesser number: a thread answers the requests in the order of their numbers
+-- the name is due for no open request with a lesser number: a thread answers requests in the order of numbers
 abbrev pub is_least : (number name : ℕ) → (opened : List Current) → Bool
 is_least n name cs = list_all (λ c. not (nat_lt c.number n && is_due name c)) cs
 
@@ -127,7 +128,7 @@ is_least n name cs = list_all (λ c. not (nat_lt c.number n && is_due name c)) c
 abbrev pub may_operate : Current → Bool
 may_operate c = is_census c.request && not c.operated
 
--- a census may be closed after its Operate, a handshake once no due thread is live
+-- a census may be closed after its Operate, a handshake when no due thread is live
 abbrev pub may_close : (live : List Live) → Current → Bool
 may_close ls c = if is_census c.request then c.operated else none_live ls c.due
 
@@ -141,7 +142,7 @@ abbrev pub without_number : (number : ℕ) → (opened : List Current) → List 
 without_number n [] = []
 without_number n (c ∷ cs) = if c.number == n then cs else c ∷ without_number n cs
 
--- a request when it is opened, given the next name and the live threads
+-- the opened request, for this next name and these live threads
 abbrev pub opened_of : (next_name : ℕ) → (live : List Live) → Asked → Current
 opened_of before ls a = record {
   number = a.number;
@@ -165,16 +166,16 @@ finished name c = record c { left = c.left - 1; due = others name c.due }
 abbrev pub as_operated : Current → Current
 as_operated c = record c { left = c.left - 1; operated = true }
 
--- there is a free slot, and it is this one
+-- this is the free slot
 abbrev pub is_free_slot : (slot : ℕ) → (free : Option ℕ) → Bool
 is_free_slot slot None = false
 is_free_slot slot (Some free) = free == slot
 
--- Whether an entry is lawful in a state. A Start takes the next name and a free place while no census is open. An Exit takes a live name.
--- An Ask takes the next number. An Open takes the oldest waiting request, if one more may be opened. A Finish takes a live name that is
--- due, in the order of the numbers. An Operate takes a census that isn't operated, and a Close a request that is done. An Install takes the
--- next serial and the free slot, for a method without code in use. An Invalidate, Retire or Free takes an unfreed code that is in the state
--- before.
+-- Whether an entry is lawful in a state. A Start takes the next name and a free place while no census is open. An Exit
+-- takes a live name. An Ask takes the next number. An Open takes the oldest waiting request, if one more may be opened.
+-- A Finish takes a live due name, in the order of numbers. An Operate takes a census that isn't operated, and a Close a
+-- request that is done. An Install takes the next serial and the free slot, for a method without code in use. An
+-- Invalidate, Retire or Free takes an unfreed code in the state before.
 abbrev pub lawful : State → Entry → Bool
 lawful s (Start name place) = (name == s.next_name) && (not (is_taken place s.live) && not (has_census s.opened))
 lawful s (Exit name) = is_live name s.live
@@ -211,29 +212,29 @@ step s (Free serial) = with_table s (with_codes s.table (with_state s.table.code
 abbrev pub empty_table : (slots methods : ℕ) → TableView
 empty_table slots methods = record { codes = []; slots = slots; methods = methods }
 
--- the state of an empty history: names and numbers begin at 1
+-- the state of an empty history. Names and numbers begin at 1
 abbrev pub start : (slots methods : ℕ) → State
 start slots methods = record { next_name = 1; live = []; next_number = 1; waiting = []; opened = []; table = empty_table slots methods }
 
--- the state after the entries, from this state on
+-- the state after the entries, from this state
 abbrev pub after_from : State → List Entry → State
 after_from s [] = s
 after_from s (e ∷ es) = after_from (step s e) es
 
--- each entry is lawful in the state after those before it, from this state on
+-- each entry is lawful in the state after the entries before it, from this state
 abbrev pub legal_from : State → List Entry → Bool
 legal_from s [] = true
 legal_from s (e ∷ es) = lawful s e && legal_from (step s e) es
 
--- the state after a history. A proof opens the definition by `unfolding`
+-- the state after a history. A proof opens this definition by `unfolding`
 unfoldable pub after : (slots methods : ℕ) → (history : List Entry) → State
 after slots methods h = after_from (start slots methods) h
 
--- each entry is lawful in the state after those before it
+-- each entry is lawful in the state after the entries before it
 unfoldable pub is_legal : (slots methods : ℕ) → (history : List Entry) → Bool
 is_legal slots methods h = legal_from (start slots methods) h
 
--- what contracts see of a receipt: an entry and its place in the history
+-- a receipt as contracts see it: an entry and its place in the history
 pub record Stands : Type 0 where
   pub place : ℕ
   pub entry : Entry
@@ -241,12 +242,12 @@ pub record Stands : Type 0 where
 abbrev pub stands : (place : ℕ) → Entry → Stands
 stands k e = record { place = k; entry = e }
 
--- what was forgotten: the number of first entries that no longer count, and the last operation whose replies were forgotten
+-- how many first entries no longer count, and the last operation whose replies were forgotten
 pub record Gone : Type 0 where
   pub entries : ℕ
   pub operations : ℕ
 
--- the entries, the number of further entries with room reserved, and what was forgotten
+-- the entries, how many more have reserved room, and what was forgotten
 pub record Book : Type 0 where
   pub history : List Entry
   pub reserved : ℕ

@@ -1,10 +1,10 @@
--- How often a history answers an operation for a name.
+-- How often a history finishes an operation for a name.
 use Rattle.std.specs.Prelude.{◌≡◌, ◌≤◌, ℕ, ◌+◌, List, [], ◌∷◌, Bool, true, false, ◌&&◌, ◌==◌, if◌then◌else◌, Option, Some, None}
 use Rattle.desk.specs.declared.entries.Entry.{Entry}
 use Rattle.desk.specs.declared.entries.Entry.TheVariants.{Start, Exit, Ask, Open, Finish, Operate, Close, Install, Invalidate, Retire, Free}
 use Rattle.desk.specs.Machine.{is_legal}
 
--- whether an entry is the Finish of this operation and name
+-- the entry is the Finish of this operation and name
 abbrev pub is_finish : ℕ → ℕ → Entry → Bool
 is_finish n name (Start a b) = false
 is_finish n name (Exit a) = false
@@ -40,7 +40,7 @@ abbrev pub with_reply : Option (ℕ × ℕ) → List (ℕ × ℕ) → List (ℕ 
 with_reply None rest = rest
 with_reply (Some reply) rest = reply ∷ rest
 
--- the replies to an operation, each with its name: those of all its Finish entries, in order
+-- the replies to an operation with their names, by its Finish entries in order
 abbrev pub replies_of : ℕ → List Entry → List (ℕ × ℕ)
 replies_of n [] = []
 replies_of n (e ∷ es) = with_reply (reply_in n e) (replies_of n es)

@@ -1,4 +1,4 @@
--- What contracts see of an Operate that was entered.
+-- An entered Operate as contracts see it.
 use Rattle.std.specs.Prelude.{ℕ, List}
 use Rattle.desk.specs.Machine.{Stands}
 

@@ -1,4 +1,4 @@
--- When each refusal is returned: its own test holds, and the tests before it don't.
+-- When each refusal is returned: its test holds, and no test before it.
 use Rattle.std.specs.Prelude.{nat_le, ◌&&◌, ◌==◌, slice_get, ◌≡◌, ℕ, ◌+◌, ◌<◌, ◌≤◌, ◌^◌, true, false, Bool, List, [], ◌∷◌, Option, Some, None, length}
 use Rattle.std.specs.List.{list_any, list_all}
 use Rattle.frames.specs.ImageView.{IsSettled}
@@ -37,7 +37,7 @@ HasFree s places = (k : ℕ) × (k < places) × (is_taken k s.live ≡ false)
 abbrev pub room_for : Book → ℕ → Bool
 room_for b more = has_room (entries_kept b) b.reserved more
 
--- no test refuses the start: it fails only if memory is refused
+-- no test refuses the start, so it fails only for lack of memory
 abbrev pub MayStart : State → ℕ → Book → Type 0
 MayStart s places b = (has_census s.opened ≡ false) × HasFree s places × (s.next_name < 2 ^ 40) × (room_for b 2 ≡ true)
 
@@ -48,8 +48,8 @@ start_refused s places b start.Spent = (has_census s.opened ≡ false) × HasFre
 start_refused s places b start.HistoryFull = (has_census s.opened ≡ false) × HasFree s places × (s.next_name < 2 ^ 40) × (room_for b 2 ≡ false)
 start_refused s places b start.NoMemory = MayStart s places b
 
--- no test refuses the request: it fails only if memory is refused. `fits` says whether there is one job for each target, in order, each
--- with the request's ask
+-- no test refuses the request, so it fails only for lack of memory. `fits`: each target has one job with the request's
+-- ask, in the same order
 abbrev pub MayAsk : State → Request → Bool → Book → Type 0
 MayAsk s r fits b = (s.next_number < 2 ^ 40) × (length s.waiting < 64) × (has_targets r ≡ true) × (are_targets r && fits ≡ true) × (room_for b (3 + steps_of r) ≡ true)
 
@@ -65,7 +65,7 @@ abbrev pub open_refused : State → OpenFault → Type 0
 open_refused s opens.AlreadyOpen = may_open_more s.waiting s.opened ≡ false
 open_refused s opens.QueueEmpty = (may_open_more s.waiting s.opened ≡ true) × (s.waiting ≡ [])
 
--- the oldest open request
+-- the test of the oldest open request has this result
 abbrev pub front_is : (Current → Bool) → List Current → Bool → Type 0
 front_is test [] b = false ≡ true
 front_is test (c ∷ cs) b = test c ≡ b
@@ -78,12 +78,12 @@ abbrev pub oldest_of : List Current → Option Current
 oldest_of [] = None
 oldest_of (c ∷ cs) = Some c
 
--- the open request with this number, or the oldest one if no number is given
+-- the open request with this number, or without a number the oldest one
 abbrev pub chosen : Option ℕ → List Current → Option Current
 chosen None cs = oldest_of cs
 chosen (Some n) cs = open_of n cs
 
--- a body belongs to a target, live or not; each thread is a target of a census
+-- a body is of a target, live or not. A census targets every thread
 abbrev pub holds_target : Request → List BodyView → Bool
 holds_target request bs = list_any (λ b. is_target request b.name) bs
 
@@ -93,7 +93,7 @@ close_refused s number bs close.NotOf = HasOpen s × (chosen number s.opened ≡
 close_refused s number bs close.Held = (c : Current) × (chosen number s.opened ≡ Some c) × (holds_target c.request bs ≡ true)
 close_refused s number bs close.NotDone = (c : Current) × (chosen number s.opened ≡ Some c) × (holds_target c.request bs ≡ false) × (may_close s.live c ≡ false)
 
--- no test refuses the install: it fails only if memory is refused
+-- no test refuses the install, so it fails only for lack of memory
 abbrev pub MayInstall : State → ℕ → Book → Type 0
 MayInstall s m b = (install_fault s.table m ≡ None) × (room_for b 4 ≡ true)
 
@@ -109,7 +109,7 @@ ask_fault room.NoMemory = ask.NoMemory
 abbrev pub has_body : ℕ → List BodyView → Bool
 has_body name bs = list_any (λ b. b.name == name) bs
 
--- the bodies are exactly those of all live names
+-- the bodies are those of all live names, and no others
 abbrev pub are_all : List Live → List BodyView → Bool
 are_all ls bs = (length ls == length bs) && list_all (λ l. has_body l.name bs) ls
 
@@ -129,7 +129,7 @@ operate_refused s bs operate.NotAllHeld = front_is (λ c. is_census c.request) s
 abbrev pub MayOperate : State → List BodyView → Type 0
 MayOperate s bs = front_is (λ c. is_census c.request) s.opened true × front_is (λ c. c.operated) s.opened false × (are_all s.live bs ≡ true)
 
--- why the open census can't be operated over the bodies; None if it can
+-- why the open census can't be operated over the bodies, or None
 abbrev pub operate_said : State → List BodyView → Option OperateFault → Type 0
 operate_said s bs None = MayOperate s bs
 operate_said s bs (Some fault) = operate_refused s bs fault
@@ -141,7 +141,7 @@ abbrev pub ask_refused_if : State → Option Request → (Request → Bool) → 
 ask_refused_if s None fits b fault = true ≡ false
 ask_refused_if s (Some r) fits b fault = ask_refused s r (fits r) b fault
 
--- why the reclaiming of a code doesn't begin, in the order of the tests
+-- why reclaiming a code doesn't begin, in the order of the tests
 abbrev pub reclaim_refused : State → ℕ → Option Request → (Request → Bool) → Book → ℕ → ReclaimFault → Type 0
 reclaim_refused s serial r fits b moment (reclaim.Code fault) = retire_fault (unfreed s.table.codes serial) ≡ Some fault
 reclaim_refused s serial r fits b moment reclaim.AlreadyOpen = (retire_fault (unfreed s.table.codes serial) ≡ None) × (is_idle s ≡ false)

@@ -1,10 +1,10 @@
--- The replies to each operation, and the room that is reserved for those that may still come.
+-- The replies to each operation, and the room for replies that may follow.
 use Rattle.std.specs.Prelude.{◌≡◌, ◌≢◌, ℕ, ◌+◌, ◌-◌, ◌<◌, ◌≤◌, ◌==◌, nat_le, List, [], ◌∷◌, length, get_or, if◌then◌else◌}
 use Rattle.desk.specs.declared.entries.Entry.{Entry}
 use Rattle.desk.specs.Machine.{Asked, Current, Gone, Book, targets_of}
 use Rattle.desk.specs.Once.{replies_of}
 
--- the replies to an operation, each with its name, and how many more may follow
+-- the replies to an operation with their names, and how many more may follow
 pub record Said : Type 0 where
   pub said : List (ℕ × ℕ)
   pub room : ℕ
@@ -12,23 +12,23 @@ pub record Said : Type 0 where
 abbrev pub nothing_said : Said
 nothing_said = record { said = []; room = 0 }
 
--- what contracts see of a log: its book, the replies to each operation after those whose replies were forgotten, and for how many more
--- operations and for how many more replies there is memory
+-- a log as contracts see it: its book, the replies to each operation after the forgotten ones, and memory for more
+-- operations and for more replies
 pub record Logged : Type 0 where
   pub book : Book
   pub lists : List Said
   pub spare : ℕ
   pub places : ℕ
 
--- the replies to the operation with this number, if there is one
+-- the replies to the operation with this number, if any
 abbrev pub of_number : ℕ → List Said → Said
 of_number n lists = if n == 0 then nothing_said else get_or lists (n - 1) nothing_said
 
--- the lists are the replies in the history, by operation, for all operations after `gone`, the last whose replies were forgotten
+-- the lists are the history's replies by operation, for all operations after `gone`, the last forgotten one
 abbrev pub AreReplies : ℕ → List Entry → List Said → Type 0
 AreReplies gone history lists = (n : ℕ) → gone < n → (of_number (n - gone) lists).said ≡ replies_of n history
 
--- the replies to an operation; none if they were forgotten
+-- the replies to an operation, or none if they were forgotten
 abbrev pub replies_kept : ℕ → Book → List (ℕ × ℕ)
 replies_kept n b = if nat_le n b.gone.operations then [] else replies_of n b.history
 
@@ -37,7 +37,8 @@ pub record HasLess (op : ℕ) (old new : List Said) : Type 0 where
   pub here : (of_number op new).room + 1 ≡ (of_number op old).room
   pub others : (n : ℕ) → n ≢ op → (of_number n new).room ≡ (of_number n old).room
 
--- how many replies to an operation may still come: one from each target while it waits, one from each due target while it is open
+-- how many replies to an operation may follow: one from each target while it waits, one from each due target while it
+-- is open
 abbrev pub owed_waiting : ℕ → List Asked → ℕ
 owed_waiting n [] = 0
 owed_waiting n (a ∷ rest) = (if a.number == n then length (targets_of a.request) else 0) + owed_waiting n rest
@@ -46,8 +47,7 @@ abbrev pub owed_opened : ℕ → List Current → ℕ
 owed_opened n [] = 0
 owed_opened n (c ∷ cs) = (if c.number == n then length c.due else 0) + owed_opened n cs
 
--- each operation number that was given out has its list, except those whose replies were forgotten, with room for all replies that may
--- still come
+-- each operation that was given out and isn't forgotten has a list, with room for all replies that may follow
 pub record HaveRoom (gone : Gone) (next_number : ℕ) (waiting : List Asked) (opened : List Current) (lists : List Said) : Type 0 where
   pub count : gone.operations + length lists + 1 ≡ next_number
   pub enough : (n : ℕ) → owed_waiting n waiting + owed_opened n opened ≤ (of_number (n - gone.operations) lists).room

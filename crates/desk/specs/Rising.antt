@@ -3,11 +3,11 @@ use Rattle.std.specs.Prelude.{◌≡◌, ◌≤◌, ℕ, ◌+◌, List, [], ◌�
 use Rattle.desk.specs.declared.entries.Entry.{Entry}
 use Rattle.desk.specs.Machine.{after, is_legal, names_of}
 
--- the numbers are in ascending order, without repeats, and at least this one
+-- the numbers rise, from this number on
 abbrev pub AreRising : ℕ → List ℕ → Type 0
 AreRising least [] = Unit {0}
 AreRising least (n ∷ ns) = (least ≤ n) × AreRising (n + 1) ns
 
--- after a legal history the live names are in ascending order
+-- after a legal history the live names rise
 abbrev pub LiveNamesRise : Type 0
 LiveNamesRise = (slots methods : ℕ) (history : List Entry) → is_legal slots methods history ≡ true → AreRising 0 (names_of (after slots methods history).live)

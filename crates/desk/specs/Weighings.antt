@@ -1,4 +1,4 @@
--- What contracts see of a weighing.
+-- A weighing as contracts see it.
 use Rattle.std.specs.Prelude.{ℕ}
 use Rattle.board.specs.declared.weighed.Weighed.{Weighed}
 

@@ -1,4 +1,4 @@
-//! A request is made, or refused.
+//! Submits requests, or refuses them.
 ghost use Rattle.std.specs.Prelude.{◌≡◌, ◌&&◌, ◌+◌, ◌<◌, ◌^◌, ◌++◌, ◌∷◌, [], Bool, ℕ, ◌≤◌, true, length, IfOk, IfErr, IfSome, IfNone, OnOk, OnErr};
 ghost use Rattle.operations.specs.declared.Request.{Request as RequestOf};
 ghost use Rattle.operations.specs.Requests.{are_targets, has_targets};
@@ -21,8 +21,8 @@ use operations::job::HandshakeOp;
 use operations::queue::{Queue, Unqueued};
 use std::mem;
 
-// Appends a request to the queue, with its jobs and with memory for the due names of `targets` targets; `spare` is used if it is large
-// enough. Refused only if memory is refused: the jobs come back.
+// Appends a request to the queue, with its jobs and memory for the due names of `targets` targets. Uses `spare` if it
+// is large enough. If memory is refused, returns the jobs.
 #[inline(always)]
 fn wait_for_its_turn<J>(
     queue: &mut Queue<Carried<J>>,
@@ -61,8 +61,11 @@ fn wait_for_its_turn<J>(
 }
 
 impl<N: Name, J: HandshakeOp> Desk<N, J> {
-    /// Enters an Ask and queues the request with its jobs: one job for each target, in the order of the targets, each with the request's
-    /// ask. A refusal returns the jobs.
+    /// Enters an Ask and queues the request with its jobs: one for each target, in the same order, each with the
+    /// request's ask. Returns the request's number and the receipt.
+    ///
+    /// # Errors
+    /// The first fault in the order of `AskFault`, with the jobs.
     #[inline(always)]
     pub fn submit(
         &mut self,
@@ -118,8 +121,8 @@ impl<N: Name, J: HandshakeOp> Desk<N, J> {
         Ok((number, self.log.enter_ask(targets, seen)))
     }
 
-    // Why a request is refused before the call reserves room for it. The arguments say whether the request has targets, and whether its
-    // targets are good and its jobs fit.
+    // Why a request is refused before any room is reserved for it. `has_some`: it has targets. `good`: its targets are
+    // good and its jobs fit.
     #[inline(always)]
     fn ask_refusal(&self, has_some: bool, good: bool) -> Option<AskFault>
         ensures some { IfSome result (λ fault. (r : RequestOf) (fits : Bool) (b : Book)
@@ -144,8 +147,8 @@ impl<N: Name, J: HandshakeOp> Desk<N, J> {
         None
     }
 
-    /// Why `submit` refuses a handshake of these jobs, with their targets in order and the ask of the first job; NoMemory if no test
-    /// refuses it. It makes no request and takes no memory.
+    /// Returns why `submit` refuses a handshake of these jobs' targets, in order, with the ask of the first job;
+    /// `NoMemory` if no test refuses it. Makes no request and doesn't allocate.
     pub fn ask_fault(&self, jobs: &[J]) -> AskFault
         requires jobs { 0 < length jobs.now }
         ensures { ask_refused_if (at self.now) (request_of J.whom J.asks jobs.now)

@@ -1,4 +1,4 @@
-//! The evidence that a Close was entered.
+//! The evidence of a Close.
 ghost use Rattle.std.specs.Prelude.{◌≡◌};
 
 use crate::log::Receipt;
@@ -7,8 +7,9 @@ use operations::Kind;
 use std::marker::Model;
 use std::snapshot::Snapshot;
 
-/// Evidence that the history of the desk of N has this Close, with the kind of the closed request and the number of the request that was
-/// the oldest open one then, which may be the closed one. Only the desk makes it, when it enters the Close. It can't be copied.
+/// Evidence of a Close in the history of N's desk, with the kind of the closed request and the number of the oldest
+/// request open then, which may be the closed one. Only the desk makes it, when it enters the Close. It can't be
+/// copied.
 #[derive(Drop)]
 pub struct Closing<N: Name> {
     receipt: Receipt<N>,
@@ -39,7 +40,7 @@ impl<N: Name> Closing<N> {
         }
     }
 
-    /// The receipt of the entry.
+    /// Returns the receipt of the entry.
     pub fn receipt(self) -> Receipt<N>
         ensures { result ≡ self.stands }
     {

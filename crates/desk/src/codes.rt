@@ -67,8 +67,8 @@ fn find_not_entrant(table: &MethodTable, serial: u64) -> Result<Code, RetireFaul
     }
 }
 
-// Stores in the board that the new code is in use in its vacant slot. Before that, it stores that the code it replaces, if any, is not
-// entrant.
+// Stores in the board that the replaced code, if any, is not entrant, and then that the new code is in use in its
+// vacant slot.
 fn store_new(keeper: &mut Keeper, board: &Board, installed: Installed)
     requires board { keeper.old.board ≡ board.now }
     requires old { IfSome installed.replaced (λ old.
@@ -127,15 +127,16 @@ impl<N: Name> Codes<N> {
         }
     }
 
-    /// Why `install` refuses the method, except for lack of memory.
+    /// Returns why `install` refuses the method, except for lack of memory.
     pub fn refusal(&self, method: u64) -> Option<InstallFault>
         ensures { result ≡ install_fault self.now.table method }
     {
         self.table.refusal(method)
     }
 
-    /// Adds a new code for the method to the table and stores its entry in the board. If another code is in use for the method, it becomes
-    /// not entrant first, in the table and in the board.
+    /// Adds a new code for the method to the table and stores its entry in the board. If another code is in use for the
+    /// method, that code becomes not entrant first, in the table and in the board. Refusals in the order of
+    /// `InstallFault`.
     pub fn install(&mut self, board: &Board, method: u64) -> Result<Installed, InstallFault>
         requires board { board.now ≡ N.board }
 
@@ -165,7 +166,7 @@ impl<N: Name> Codes<N> {
         Ok(installed)
     }
 
-    /// Makes the code not entrant, in the table and in the board.
+    /// Makes the code not entrant, in the table and in the board. Refusals in the order of `InvalidateFault`.
     pub fn invalidate(&mut self, board: &Board, serial: u64) -> Result<CodeId, InvalidateFault>
         requires board { board.now ≡ N.board }
 
@@ -194,7 +195,7 @@ impl<N: Name> Codes<N> {
         Ok(id)
     }
 
-    /// Begins the next moment (epoch).
+    /// Begins the next moment (epoch). Refused at the last one.
     pub fn round(&mut self, board: &Board) -> Result<(), Spent>
         requires board { board.now ≡ N.board }
         ensures ok { OnOk result
@@ -210,8 +211,8 @@ impl<N: Name> Codes<N> {
         self.keeper.round(board)
     }
 
-    /// Looks at a place for a code that is not entrant. Returns whether the place is covered: it can't have an uncounted frame of the code
-    /// any more.
+    /// Looks at a place for a code that is not entrant. Returns whether the place is covered: it can't have an
+    /// uncounted frame of the code any more. Refusals in the order of `RetireFault`.
     pub fn look(&mut self, board: &Board, serial: u64, place: usize) -> Result<bool, RetireFault>
         requires board { board.now ≡ N.board }
         requires place { place < N.board.places }
@@ -232,7 +233,7 @@ impl<N: Name> Codes<N> {
         Ok(self.keeper.look(board, id_of(code), place))
     }
 
-    /// Looks for the code at each place below `places`, in ascending order.
+    /// Looks for the code at each place below `places`, in ascending order. Refusals in the order of `RetireFault`.
     #[inline(always)]
     pub fn look_at_all(
         &mut self,
@@ -258,7 +259,8 @@ impl<N: Name> Codes<N> {
         Ok(())
     }
 
-    /// Weighs the code. If it has no activation left, it becomes a zombie, in the table and in the board.
+    /// Weighs the code. If it has no activation left, it becomes a zombie, in the table and in the board. Refusals in
+    /// the order of `RetireFault`.
     pub fn weigh(&mut self, board: &Board, serial: u64) -> Result<Weighed, RetireFault>
         requires board { board.now ≡ N.board }
 
@@ -282,7 +284,7 @@ impl<N: Name> Codes<N> {
         Ok(said)
     }
 
-    /// Frees the slot of a zombie, in the table and in the board.
+    /// Frees the slot of a zombie, in the table and in the board. Refusals in the order of `FreeFault`.
     pub fn free(&mut self, board: &Board, serial: u64) -> Result<CodeId, FreeFault>
         requires board { board.now ≡ N.board }
 
@@ -310,22 +312,22 @@ impl<N: Name> Codes<N> {
         Ok(id)
     }
 
-    /// The method table and the keeper's view agree.
+    /// Law: the method table and the keeper's view agree.
     pub fn are_entries(&self)
         ensures { AreEntries self.now.table self.now.keeper }
     {
-        // This use shows the proof the invariant of the codes.
+        // This use makes the invariant known to the proof.
         let _ = &self.keeper;
     }
 
-    /// Whether the current moment (epoch) is the last one.
+    /// Returns whether the current moment (epoch) is the last one.
     pub fn is_last_moment(&self) -> bool
         ensures { result ≡ nat_le (2 ^ 40) (self.now.keeper.moment + 1) }
     {
         self.keeper.is_last_moment()
     }
 
-    /// Why `weigh` refuses the code; None if it doesn't.
+    /// Returns why `weigh` refuses the code; None if it doesn't.
     pub fn weigh_fault(&self, serial: u64) -> Option<RetireFault>
         ensures { result ≡ retire_fault (unfreed self.now.table.codes serial) }
     {

@@ -1,4 +1,4 @@
-//! The desk: everything that threads and clients ask of the coordinator, in one history.
+//! The desk: one history of all that threads and clients ask of the coordinator.
 ghost use Rattle.std.specs.Prelude.{◌≡◌, ◌+◌, ◌^◌, [], true, nat_le, IfOk, IfErr};
 ghost use Rattle.board.specs.Boards.{first_keeper};
 ghost use Rattle.desk.specs.CodeBoard.{AreEntries};
@@ -19,8 +19,8 @@ use operations::queue::Queue;
 use std::alloc::Global;
 use std::marker::Model;
 
-/// The desk. The fields that a Finish touches come first, in their order in memory after the desk's lock: the thread that enters a Finish
-/// finds these cache lines at another processor.
+/// The desk. The fields that a Finish touches come first, in their order in memory after the desk's lock, since the
+/// thread that enters a Finish finds these cache lines at another processor.
 #[derive(Drop)]
 pub struct Desk<N: Name, J: HandshakeOp> {
     pub(crate) alloc: Global,
@@ -31,7 +31,7 @@ pub struct Desk<N: Name, J: HandshakeOp> {
     pub(crate) next_name: u64,
     pub(crate) next_number: u64,
     pub(crate) queue: Queue<Carried<J>>,
-    /// Memory for the due names of the request that was closed last. The next submitted request reuses it.
+    /// Memory for the due names of the last closed request. The next submitted request reuses it.
     pub(crate) spare: DueRoom,
     pub(crate) codes: Codes<N>,
 }
@@ -68,7 +68,10 @@ impl<N: Name, J: HandshakeOp> Model for Desk<N, J> {
 }
 
 impl<N: Name, J: HandshakeOp> Desk<N, J> {
-    /// An empty desk. If memory is refused, the keeper is returned.
+    /// Makes an empty desk.
+    ///
+    /// # Errors
+    /// Memory is refused, and the keeper is returned.
     pub fn new(
         alloc: Global,
         table: MethodTable,
@@ -106,21 +109,21 @@ impl<N: Name, J: HandshakeOp> Desk<N, J> {
         })
     }
 
-    /// The method table and the keeper's view agree.
+    /// Law: the method table and the keeper's view agree.
     pub fn codes_are_entries(&self)
         ensures { AreEntries (at self.now).table self.now.keeper }
     {
         self.codes.are_entries();
     }
 
-    /// Whether no request is open or waiting.
+    /// Returns whether no request is open or waits.
     pub fn is_idle(&self) -> bool
         ensures { result ≡ is_idle (at self.now) }
     {
         is_idle(self.opened.as_slice(), &self.queue)
     }
 
-    /// Whether the current moment (epoch) is the last one.
+    /// Returns whether the current moment (epoch) is the last one.
     pub fn is_last_moment(&self) -> bool
         ensures { result ≡ nat_le (2 ^ 40) (self.now.keeper.moment + 1) }
     {
@@ -131,7 +134,7 @@ impl<N: Name, J: HandshakeOp> Desk<N, J> {
     pub fn history_is_legal(&self)
         ensures { is_legal self.now.slots self.now.methods self.now.book.history ≡ true }
     {
-        // This use shows the proof the desk's invariant.
+        // This use makes the invariant known to the proof.
         let _ = &self.log;
     }
 }

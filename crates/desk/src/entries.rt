@@ -1,4 +1,4 @@
-//! Entries of the history, and the values that the desk keeps from them.
+//! The entries of the history, and the values that the desk stores.
 use crate::names::{Awaited, DueRoom};
 use frames::CodeId;
 use operations::{Kind, Request};
@@ -11,12 +11,13 @@ pub struct Live {
     pub place: usize,
 }
 
-/// What the open requests mean for the thread of a name.
+/// The meaning of the open requests for the thread of a name.
 #[derive(Clone, Copy, PartialEq, Eq, Debug)]
 pub enum Standing {
     /// No request is open.
     NothingOpen,
-    /// No open request is for this name: no open handshake lists it, and for an open census the name was never given out.
+    /// No open request is for this name: no open handshake lists it, and for an open census the name was never given
+    /// out.
     NotOf,
     /// Some open request is for the name, but the thread isn't live, or wasn't live at the Open of any such request.
     Gone,
@@ -33,14 +34,14 @@ pub struct Target {
     pub kind: Kind,
 }
 
-/// How far a live thread is with the open requests for which its poll word was armed.
+/// The progress of a live thread with the open requests for which its poll word was armed.
 #[derive(Clone, Copy, PartialEq, Eq, Debug)]
 pub enum Progress {
     /// Its poll word was armed for no open request.
     NotTold,
-    /// It has a Finish for each open handshake for which its poll word was armed; or the census, for which it was armed, is operated.
+    /// It has a Finish for each of these handshakes, or the census is operated.
     Done,
-    /// The least number of an open request for which its poll word was armed and that it isn't done with.
+    /// It isn't done with one of these requests. The number is the least of such a request.
     Undone(u64),
 }
 
@@ -63,7 +64,7 @@ pub enum Entry {
     Free(u64),
 }
 
-/// What a waiting request carries: its jobs, and memory for the list of due names that it needs once it is open.
+/// The load of a waiting request: its jobs, and memory for its due names once it is open.
 #[derive(Drop)]
 pub struct Carried<J> {
     pub room: DueRoom,
@@ -74,14 +75,14 @@ pub struct Carried<J> {
 #[derive(Drop)]
 pub struct Opened<J> {
     pub number: u64,
-    /// How many more entries have room reserved: Finish entries of a handshake, or the Operate of a census.
+    /// For how many more entries room is reserved: Finish entries of a handshake, or the Operate of a census.
     pub left: usize,
     /// The targets that were live at the Open and have no Finish yet.
     pub due: Awaited,
     pub request: Request,
-    /// The next name to be given out at the time of the Open. A thread that is live now was live at the Open if its name is less than this.
+    /// The next name at the Open. A live thread was live at the Open if its name is less than this.
     pub before: u64,
     pub operated: bool,
-    /// The jobs that weren't taken yet, in the order of the targets. They are mostly taken in this order.
+    /// The jobs that weren't taken, in the order of the targets. Mostly they are taken in this order.
     pub jobs: VecDeque<J>,
 }

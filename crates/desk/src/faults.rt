@@ -59,7 +59,8 @@ pub enum AskFault {
     QueueFull,
     /// A handshake has no targets.
     NoTargets,
-    /// A target is listed twice, there are too many targets, or the jobs aren't one for each target, in order and with the request's ask.
+    /// A target is listed twice, there are too many targets, or the jobs aren't one for each target, in order and with
+    /// the request's ask.
     BadTargets,
     /// The history has no room for all entries that the request can still cause.
     HistoryFull,
@@ -96,7 +97,8 @@ pub struct Refused<J> {
 /// Why no request is opened.
 #[derive(Drop, Clone, Copy, PartialEq, Eq, Debug)]
 pub enum OpenFault {
-    /// Four handshakes are open, a census is open, or the oldest waiting request is a census while another request is open.
+    /// Four handshakes are open, a census is open, or the oldest waiting request is a census while another request is
+    /// open.
     AlreadyOpen,
     /// No request waits.
     QueueEmpty,

@@ -1,4 +1,4 @@
-//! The evidence that a Finish was entered.
+//! The evidence of a Finish.
 ghost use Rattle.std.specs.Prelude.{◌≡◌};
 
 use crate::log::Receipt;
@@ -7,9 +7,9 @@ use operations::Ask;
 use std::marker::Model;
 use std::snapshot::Snapshot;
 
-/// Evidence that the history of the desk of N has this Finish, with the operation's ask and the body on which the job was run, as the body
-/// was at the time of the entry: before the operation is cleared for it. Only the desk makes it, when it enters the Finish. It can't be
-/// copied.
+/// Evidence of a Finish in the history of N's desk, with the operation's ask and the body on which the job ran, as the
+/// body was at the entry, before the operation is cleared for it. Only the desk makes it, when it enters the Finish. It
+/// can't be copied.
 #[derive(Drop)]
 pub struct Finished<N: Name> {
     receipt: Receipt<N>,
@@ -38,7 +38,7 @@ impl<N: Name> Finished<N> {
         }
     }
 
-    /// The receipt of the entry.
+    /// Returns the receipt of the entry.
     pub fn receipt(self) -> Receipt<N>
         ensures { result ≡ self.stands }
     {

@@ -1,4 +1,4 @@
-//! The job of a target is taken, and its reply is entered.
+//! Takes the job of a target, and enters its reply.
 ghost use Rattle.std.specs.Prelude.{◌≡◌, ◌+◌, ◌<◌, true, false, Some, None, IfOk, IfErr, IfSome, IfNone, OnOk, OnSome, ◌⊎◌};
 ghost use Rattle.frames.specs.ImageView.{IsSettled};
 ghost use Rattle.operations.specs.Asks.{reply};
@@ -14,8 +14,8 @@ use bodies::{Body, Name};
 use operations::job::{Done, HandshakeOp};
 
 impl<N: Name, J: HandshakeOp> Desk<N, J> {
-    /// Takes the job of a target out of an open request. `number` is the number of the operation. None if there is no such open request or
-    /// its job for the target was taken before.
+    /// Takes the target's job out of the open request of this number. None if no such request is open, or the job was
+    /// taken before.
     #[inline(always)]
     pub fn take_job(&mut self, number: u64, name: u64) -> Option<J>
         ensures some { IfSome result (λ j.
@@ -36,9 +36,12 @@ impl<N: Name, J: HandshakeOp> Desk<N, J> {
         job_of(&mut self.opened, place, name)
     }
 
-    /// Enters the Finish with the reply that a job gave on a settled body, or returns `done` if the Finish isn't lawful. It is lawful if
-    /// the operation is open, the body's thread is a live target of it without a Finish, and the thread has a Finish for each open
-    /// operation with a lesser number of which it is a live target. `done` is also returned if the job's ask isn't the operation's.
+    /// Enters the Finish with the reply that a job gave on a settled body. It is lawful if the operation is open, the
+    /// body's thread is a live target of it without a Finish, and the thread has a Finish for each open operation with
+    /// a lesser number of which it is a live target.
+    ///
+    /// # Errors
+    /// The Finish isn't lawful, or the job's ask isn't the operation's. `done` is returned.
     #[inline(always)]
     pub fn finish(&mut self, body: &Body<N>, done: Done) -> Result<Finished<N>, Done>
         requires name { body.now.name ≡ done.target }

@@ -1,4 +1,4 @@
-//! Replies are read, and old entries and replies are forgotten.
+//! Reads replies, and forgets old entries and replies.
 ghost use Rattle.std.specs.Prelude.{◌≡◌, ℕ, ◌+◌, ◌<◌, ◌≤◌, length, true, Some, None, IfOk, IfSome, IfNone};
 ghost use Rattle.desk.specs.Fields.{at};
 ghost use Rattle.desk.specs.Once.{replies_of};
@@ -11,15 +11,16 @@ use operations::job::HandshakeOp;
 use std::alloc::AllocError;
 
 impl<N: Name, J: HandshakeOp> Desk<N, J> {
-    /// The replies to an operation, each with its thread's name, in the order of the Finish entries; none if the replies were forgotten.
-    /// Refused only if memory is refused.
+    /// Returns the replies to an operation, each with its thread's name, in the order of the Finish entries; an empty
+    /// list if the replies were forgotten. Refused only if memory is refused.
     pub fn replies(&self, op: u64) -> Result<Vec<(u64, u64)>, AllocError>
         ensures { IfOk result (λ list. list.items ≡ replies_kept op self.now.book) }
     {
         self.log.replies(self.alloc, op)
     }
 
-    /// The replies to an operation, each with its thread's name, or None if they were forgotten. Refused only if memory is refused.
+    /// Returns the replies to an operation, each with its thread's name; None if they were forgotten. Refused only if
+    /// memory is refused.
     pub fn kept_replies(&self, op: u64) -> Result<Option<Vec<(u64, u64)>>, AllocError>
         ensures some { IfOk result (λ r.
             IfSome r (λ list. list.items ≡ replies_of op self.now.book.history)) }
@@ -33,8 +34,9 @@ impl<N: Name, J: HandshakeOp> Desk<N, J> {
         Ok(Some(list))
     }
 
-    /// Forgets all entries so far, and the replies to each operation before the first that is open or waits. The memory of these replies is
-    /// reused, and forgotten entries no longer count towards HistoryFull. Contracts still see the whole history.
+    /// Forgets all entries so far, and the replies to each operation before the first that is open or waits. The memory
+    /// of these replies is reused, and forgotten entries don't count towards `HistoryFull`. Contracts still see the
+    /// whole history.
     pub fn forget(&mut self)
         ensures history { (self.new.book.history ≡ self.old.book.history)
             × (self.new.book.reserved ≡ self.old.book.reserved) }
@@ -53,7 +55,7 @@ impl<N: Name, J: HandshakeOp> Desk<N, J> {
     pub fn pending_are_kept(&self)
         ensures { (n : ℕ) → is_pending n (at self.now) ≡ true → self.now.book.gone.operations < n }
     {
-        // This use shows the proof the desk's invariant.
+        // This use makes the invariant known to the proof.
         let _ = &self.log;
     }
 }

@@ -25,7 +25,7 @@ impl Past {
         Past {}
     }
 
-    /// The history with this entry appended.
+    /// Returns the history with this entry appended.
     pub fn then(&self, _entry: &Snapshot<Entry>) -> Past
         ensures { result.entries ≡ self.now.entries ++ _entry.now.value ∷ [] }
     {

@@ -1,4 +1,4 @@
-//! Codes are installed, invalidated and freed.
+//! Installs, invalidates and frees codes.
 ghost use Rattle.std.specs.Prelude.{◌≡◌, ◌+◌, ◌<◌, Some, IfOk, IfErr, OnOk, option_map};
 ghost use Rattle.frames.specs.BoardViews.{slot_of, entry_stored, not_entrant, in_state};
 ghost use Rattle.frames.specs.declared.board_rule.EntryState.TheVariants.{Vacant};
@@ -19,8 +19,9 @@ use method_table::table::{FreeFault, Installed, InvalidateFault};
 use operations::job::HandshakeOp;
 
 impl<N: Name, J: HandshakeOp> Desk<N, J> {
-    /// Installs a code for the method, in the history and in the board. If it replaces a code in use, the Invalidate of that code is
-    /// entered and stored first, in room that was reserved when that code was installed. The receipt is that of the Install.
+    /// Installs a code for the method, in the history and in the board, and returns it with the receipt of the Install.
+    /// If it replaces a code in use, the Invalidate of that code is entered and stored first, in room that was reserved
+    /// when that code was installed. Refusals in the order of `CodeFault`.
     pub fn install(
         &mut self,
         board: &Board,
@@ -58,7 +59,7 @@ impl<N: Name, J: HandshakeOp> Desk<N, J> {
         }
     }
 
-    /// Makes a code not entrant, in the history and in the board.
+    /// Makes a code not entrant, in the history and in the board. Refusals in the order of `InvalidateFault`.
     pub fn invalidate(&mut self, board: &Board, serial: u64) -> Result<Receipt<N>, InvalidateFault>
         requires board { board.now ≡ N.board }
 
@@ -78,7 +79,7 @@ impl<N: Name, J: HandshakeOp> Desk<N, J> {
         Ok(self.log.enter(Entry::Invalidate(serial)))
     }
 
-    /// Frees the slot of a zombie, in the history and in the board.
+    /// Frees the slot of a zombie, in the history and in the board. Refusals in the order of `FreeFault`.
     pub fn free(&mut self, board: &Board, serial: u64) -> Result<Receipt<N>, FreeFault>
         requires board { board.now ≡ N.board }
 

@@ -1,4 +1,4 @@
-//! What holds of every legal history.
+//! Laws of all legal histories.
 ghost use Rattle.desk.specs.DueTold.{DueAreTold};
 ghost use Rattle.desk.specs.Once.{AtMostOnce};
 ghost use Rattle.desk.specs.Rising.{LiveNamesRise};
@@ -13,8 +13,8 @@ pub fn live_names_rise()
     ensures { LiveNamesRise }
 {}
 
-/// Law: after every history, if a handshake is the only open request, then the next request to arm a due thread's poll for is that
-/// handshake, unless its poll was armed for it before.
+/// Law: while a handshake is the only open request, it is the next one to arm a due thread's poll for, unless that poll
+/// was armed for it before.
 pub fn due_are_told()
     ensures { DueAreTold }
 {}

@@ -1,9 +1,10 @@
-//! The desk of a running system: one history of entries says which threads are live, which operations are requested, and which codes there
-//! are. `thread_list` keeps it under a lock; `coordinator` and `coordinator_core` call it. Read `src/desk.rt` and `src/entries.rt` first,
-//! then `specs/Machine.antt` and `specs/Refusals.antt`.
+//! The desk of a running system: one history of entries says which threads are live, which operations are requested,
+//! and which codes there are. `thread_list` keeps it under a lock; `coordinator` and `coordinator_core` call it. Read
+//! `src/desk.rt` and `src/entries.rt` first, then `specs/Machine.antt` and `specs/Refusals.antt`.
 //!
-//! A call that changes the desk either appends the entry of its name, if that entry is lawful, and returns the entry's receipt, or it
-//! refuses and changes nothing. The type's invariant: the history is legal, and the desk's fields are the state after it.
+//! A call that changes the desk appends the entry of its name and returns the entry's receipt. If that entry isn't
+//! lawful, the call refuses and changes nothing. The type's invariant: the history is legal, and the desk's fields are
+//! the state after it.
 #![tactic(auto)]
 
 mod asking;

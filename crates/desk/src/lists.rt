@@ -24,8 +24,9 @@ use std::collections::VecDeque;
 /// How many handshakes may be open at once.
 pub const OPEN: usize = 4;
 
-/// The index of a live name. The first guess is the distance of the name from the first live name, which is right if no thread between them
-/// has exited; then a binary search follows. It misses no name, since live names are in ascending order.
+/// Returns the index of a live name. The first guess is the distance of the name from the first live name, which is
+/// right if no thread between them has exited. A binary search follows. It misses no name, since live names are in
+/// ascending order.
 #[inline(always)]
 pub fn found_at(live: &[Live], name: u64) -> Option<usize>
     ensures { IfSome result (λ i.
@@ -44,7 +45,7 @@ pub fn found_at(live: &[Live], name: u64) -> Option<usize>
     }
 }
 
-/// Whether a name is live.
+/// Returns whether a name is live.
 #[inline(always)]
 pub fn lives(live: &[Live], name: u64) -> bool
     ensures { result ≡ is_live name live.now }
@@ -55,14 +56,14 @@ pub fn lives(live: &[Live], name: u64) -> bool
     }
 }
 
-/// Whether a live thread has the place.
+/// Returns whether a live thread has the place.
 pub fn taken(live: &[Live], place: usize) -> bool
     ensures { result ≡ is_taken place live.now }
 {
     live.iter().any(|l| l.place == place)
 }
 
-/// Whether there is memory for one more live name, given that there is memory for its image.
+/// Returns whether there is memory for one more live name, given that there is memory for its image.
 pub fn make_room(live: &mut Vec<Live>, has_image: bool) -> bool
     ensures items { live.new.items ≡ live.old.items }
     ensures room { result ≡ true → (has_image ≡ true) × (vec_len live.new < vec_capacity live.new) }
@@ -78,7 +79,7 @@ pub fn take_off_live(live: &mut Vec<Live>, name: u64)
     live.retain(|l| l.name != name);
 }
 
-/// The least place that no live thread has.
+/// Returns the least free place.
 pub fn least_free(live: &[Live], places: usize) -> Option<usize>
     ensures some { IfSome result (λ p. (p < places) × (is_taken p live.now ≡ false)) }
     ensures least { IfSome result (λ p. (k : ℕ) → k < p → is_taken k live.now ≡ true) }
@@ -92,7 +93,7 @@ pub fn least_free(live: &[Live], places: usize) -> Option<usize>
     None
 }
 
-/// Whether the request is a census.
+/// Returns whether the request is a census.
 #[inline(always)]
 pub fn is_census(request: &Request) -> bool
     ensures { result ≡ is_census request.now }
@@ -103,7 +104,7 @@ pub fn is_census(request: &Request) -> bool
     }
 }
 
-/// The largest number of entries that the request makes between its Open and its Close.
+/// Returns how many entries the request can make between its Open and its Close.
 pub fn steps_of(request: &Request) -> usize
     ensures { result ≡ steps_of request.now }
 {
@@ -113,7 +114,7 @@ pub fn steps_of(request: &Request) -> usize
     }
 }
 
-/// How many targets the request lists; a census lists none.
+/// Returns how many targets the request lists; a census lists none.
 #[inline(always)]
 pub fn count_of_targets(request: &Request) -> usize
     ensures { result ≡ length (targets_of request.now) }
@@ -124,7 +125,7 @@ pub fn count_of_targets(request: &Request) -> usize
     }
 }
 
-/// Whether a census is open.
+/// Returns whether a census is open.
 pub fn has_census<J>(opened: &[Opened<J>]) -> bool
     ensures { result ≡ has_census (map current_of opened.now) }
 {
@@ -138,7 +139,7 @@ pub fn has_census<J>(opened: &[Opened<J>]) -> bool
     false
 }
 
-/// The kind of the open requests. A census is never open together with another request.
+/// Returns the kind of the open requests. A census is never open together with another request.
 pub fn kind_among<J>(opened: &[Opened<J>]) -> Kind
     ensures { result ≡ kind_among (map current_of opened.now) }
 {
@@ -182,7 +183,7 @@ fn least_open<J>(opened: &[Opened<J>], least: u64) -> u64
     least
 }
 
-/// The least number of a request that is open or waits; if there is none, the number that is given out next.
+/// Returns the least number of a request that is open or waits; if there is none, the number that is given out next.
 pub fn least_pending<J>(queue: &Queue<Carried<J>>, opened: &[Opened<J>], next: u64) -> u64
     ensures { result
         ≡ least_open (first_waiting next (map asked_of queue.now)) (map current_of opened.now) }
@@ -190,14 +191,14 @@ pub fn least_pending<J>(queue: &Queue<Carried<J>>, opened: &[Opened<J>], next: u
     least_open(opened, first_waiting(queue, next))
 }
 
-/// Whether one more request may be opened: at most four handshakes may be open, or one census alone.
+/// Returns whether one more request may be opened. At most four handshakes are open, or one census alone.
 pub fn may_open_more<J>(queue: &Queue<Carried<J>>, opened: &[Opened<J>]) -> bool
     ensures { result ≡ may_open_more (map asked_of queue.now) (map current_of opened.now) }
 {
     opened.len() < OPEN && !has_census(opened) && !(awaits_census(queue) && !opened.is_empty())
 }
 
-/// The index of the open request with this number.
+/// Returns the index of the open request with this number.
 #[inline(always)]
 pub fn index_of<J>(opened: &[Opened<J>], number: u64) -> Option<usize>
     ensures { IsIndex number opened.now result }
@@ -210,7 +211,7 @@ pub fn index_of<J>(opened: &[Opened<J>], number: u64) -> Option<usize>
     None
 }
 
-/// Whether an open request may be closed.
+/// Returns whether an open request may be closed.
 pub fn may_close<J>(request: &Opened<J>, live: &[Live]) -> bool
     ensures { result ≡ may_close live.now (current_of request.now) }
 {
@@ -221,7 +222,7 @@ pub fn may_close<J>(request: &Opened<J>, live: &[Live]) -> bool
     }
 }
 
-/// Whether a target of an open request is live and has no Finish.
+/// Returns whether a target of an open request is live and has no Finish.
 #[inline(always)]
 pub fn may_finish<J>(request: &Opened<J>, live: &[Live], name: u64) -> bool
     ensures { result ≡ (is_due name (current_of request.now) && is_live name live.now) }
@@ -229,7 +230,7 @@ pub fn may_finish<J>(request: &Opened<J>, live: &[Live], name: u64) -> bool
     request.due.has_next(name) && lives(live, name)
 }
 
-/// Whether the name is due for no open request with a lesser number.
+/// Returns whether the name is due for no open request with a lesser number.
 #[inline(always)]
 pub fn is_least<J>(opened: &[Opened<J>], number: u64, name: u64) -> bool
     ensures { result ≡ is_least number name (map current_of opened.now) }
@@ -244,7 +245,7 @@ pub fn is_least<J>(opened: &[Opened<J>], number: u64, name: u64) -> bool
     true
 }
 
-/// The index of the open request with this number, or of the oldest one if no number is given.
+/// Returns the index of the open request with this number, or of the oldest one if no number is given.
 pub fn place_chosen<J>(opened: &[Opened<J>], number: Option<u64>) -> Option<usize>
     ensures some { IfSome result (λ i.
         (i < length opened.now)
@@ -261,7 +262,7 @@ pub fn place_chosen<J>(opened: &[Opened<J>], number: Option<u64>) -> Option<usiz
     }
 }
 
-/// The number of the oldest open request.
+/// Returns the number of the oldest open request.
 #[inline(always)]
 pub fn number_of_oldest<J>(opened: &[Opened<J>]) -> u64
     requires { 0 < length opened.now }
@@ -272,7 +273,7 @@ pub fn number_of_oldest<J>(opened: &[Opened<J>]) -> u64
     opened[0].number
 }
 
-/// Whether one of the bodies belongs to a target of the request.
+/// Returns whether one of the bodies belongs to a target of the request.
 pub fn holds_target<N: Name>(request: &Request, bodies: &[Body<N>]) -> bool
     ensures { result ≡ holds_target request.now bodies.now }
 {
@@ -349,7 +350,8 @@ fn has_body_at<N: Name>(bodies: &[Body<N>], index: usize, name: u64) -> bool
     has_body(bodies, name)
 }
 
-// Whether each live name has a body. Bodies that were taken in the order of the names are in the order of the live list.
+// Whether each live name has a body. Bodies that were taken in the order of the names are in the order of the live
+// list.
 fn all_have<N: Name>(live: &[Live], bodies: &[Body<N>]) -> bool
     ensures { result ≡ list_all (λ l. has_body l.name bodies.now) live.now }
 {
@@ -365,21 +367,21 @@ fn all_have<N: Name>(live: &[Live], bodies: &[Body<N>]) -> bool
     true
 }
 
-/// Whether the bodies are exactly those of all live names.
+/// Returns whether the bodies are exactly those of all live names.
 pub fn are_all<N: Name>(live: &[Live], bodies: &[Body<N>]) -> bool
     ensures { result ≡ are_all live.now bodies.now }
 {
     live.len() == bodies.len() && all_have(live, bodies)
 }
 
-/// Whether no request is open or waiting.
+/// Returns whether no request is open or waits.
 pub fn is_idle<J>(opened: &[Opened<J>], queue: &Queue<Carried<J>>) -> bool
     ensures { result ≡ (length opened.now == 0 && length queue.now == 0) }
 {
     opened.is_empty() && queue.len() == 0
 }
 
-/// The live names.
+/// Returns the live names. Refused only if memory is refused.
 pub fn names_of(live: &[Live], alloc: Global) -> Result<Vec<u64>, AllocError>
     ensures { IfOk result (λ names. names.items ≡ names_of live.now) }
 {
@@ -412,8 +414,8 @@ fn take_first<J: HandshakeOp>(jobs: &mut VecDeque<J>, name: u64) -> Option<J>
     None
 }
 
-// Removes the first job for the name. It tries the front before it searches the list: jobs are mostly taken in order, and the front is
-// removed without moving another job.
+// Removes the first job for the name. Tries the front before it searches the list: jobs are mostly taken in order, and
+// removing the front moves no other job.
 #[inline(always)]
 fn take_of<J: HandshakeOp>(jobs: &mut VecDeque<J>, name: u64) -> Option<J>
     ensures job { IfSome result (λ j. J.whom j ≡ name) }
@@ -457,7 +459,7 @@ fn same_ask(one: Ask, other: Ask) -> bool
     }
 }
 
-/// Whether the request is a handshake with this ask.
+/// Returns whether the request is a handshake with this ask.
 #[inline(always)]
 pub fn asks_it(request: &Request, ask: Ask) -> bool
     ensures { result ≡ asks_it ask request.now }
@@ -487,7 +489,8 @@ fn are_for<J: HandshakeOp>(targets: &[u64], ask: Ask, jobs: &[J]) -> bool
     rest.is_empty()
 }
 
-/// Whether there is one job for each target of the request, in order, each with its ask. A census has no jobs.
+/// Returns whether each target of the request has one job with the request's ask, in the same order. A census has no
+/// jobs.
 pub fn jobs_fit<J: HandshakeOp>(request: &Request, jobs: &[J]) -> bool
     ensures { result ≡ jobs_fit J.whom J.asks request.now jobs.now }
 {
@@ -539,8 +542,8 @@ fn all_ask<J: HandshakeOp>(jobs: &[J], ask: Ask) -> bool
     true
 }
 
-/// Whether a handshake of the jobs' targets, with the ask of the first job, has good targets and the jobs fit it. The number of jobs is
-/// tested first, so at most 64 jobs are compared with one another.
+/// Returns whether the handshake of the jobs' targets, with the ask of the first job, has good targets, and the jobs
+/// fit it. Tests the number of jobs first, so that at most 64 jobs are compared with one another.
 pub fn fit_their_request<J: HandshakeOp>(jobs: &[J]) -> bool
     ensures fits { IfSome (request_of J.whom J.asks jobs.now) (λ asked.
         result ≡ (are_targets asked && jobs_fit J.whom J.asks asked jobs.now)) }

@@ -1,9 +1,10 @@
 //! The history with the room that is reserved in it, the replies by operation, and the receipts of entries.
 //!
-//! Nothing reads an entry, so the entries exist only in proofs. Only their count and the replies of the threads are stored.
+//! Nothing reads an entry, so the entries exist only in proofs. Only their count and the replies of the threads are
+//! stored.
 //!
-//! The first part of the history can be forgotten: contracts still see the whole history, but the forgotten entries no longer count. The
-//! replies to the first operations can be forgotten too; contracts see which.
+//! The first part of the history can be forgotten: contracts still see the whole history, but the forgotten entries no
+//! longer count. The replies to the first operations can be forgotten too; contracts see which.
 ghost use Rattle.std.specs.Prelude.{◌≡◌, ℕ, ◌+◌, ◌-◌, ◌<◌, ◌≤◌, [], ◌∷◌, ◌++◌, length, drop, true, false, None, OnOk, IfOk, IfErr};
 ghost use Rattle.desk.specs.declared.entries.Entry.{Entry as EntryOf};
 ghost use Rattle.desk.specs.Fields.{install_entries, kept_before};
@@ -27,8 +28,8 @@ use std::snapshot::Snapshot;
 /// The largest number of entries in a history, without the forgotten ones.
 pub const MOST: usize = 1_000_000;
 
-/// The receipt of an entry: the entry and its place in the history of the desk of N. Only a log makes one. It exists only in proofs and
-/// takes no memory.
+/// The receipt of an entry: the entry and its place in the history of the desk of N. Only a log makes one. It exists
+/// only in proofs and takes no memory.
 #[derive(Drop)]
 pub struct Receipt<N: Name> {
     before: Snapshot<Past>,
@@ -63,15 +64,16 @@ impl<N: Name> Model for Length<N> {
     ghost view = { λ l. length l.past.value.entries };
 }
 
-/// Contracts see the entries, the number of further entries with room reserved, the replies to each operation that was asked, and for how
-/// many more operations and replies there is memory.
+/// The log. Contracts see the entries, the number of further entries with reserved room, the replies to each operation
+/// that was asked, and for how many more operations and replies there is memory.
 #[derive(Drop)]
 pub struct Log<N: Name> {
     past: Past,
     /// The number of entries, without the forgotten ones.
     count: usize,
     reserved: usize,
-    /// The last operation whose replies were forgotten. A Finish reads it, so it lies beside the fields that a Finish changes.
+    /// The last operation whose replies were forgotten. A Finish reads it, so it lies beside the fields that a Finish
+    /// changes.
     forgotten: u64,
     replies: Replies,
     of: PhantomData<N>,
@@ -141,7 +143,7 @@ fn append<N: Name>(past: &mut Past, count: &mut usize, entry: Snapshot<Entry>) -
     }
 }
 
-/// The entry of an Ask as contracts see it, and the request, which is returned.
+/// Returns the entry of an Ask as contracts see it, and gives the request back.
 #[inline(always)]
 pub fn seen_as_ask(number: u64, request: Request) -> (Snapshot<Entry>, Request)
     ensures { (result.0.value ≡ Entry.Ask number request) × (result.1 ≡ request) }
@@ -171,8 +173,8 @@ impl<N: Name> Log<N> {
         }
     }
 
-    /// The replies to an operation, each with its thread's name, in the order of the entries; none if they were forgotten. Refused only if
-    /// memory is refused.
+    /// Returns the replies to an operation, each with its thread's name, in the order of the entries; none if they were
+    /// forgotten. Refused only if memory is refused.
     pub fn replies(&self, alloc: Global, op: u64) -> Result<Vec<(u64, u64)>, AllocError>
         ensures { IfOk result (λ list. list.items ≡ replies_kept op self.now.book) }
     {
@@ -182,7 +184,7 @@ impl<N: Name> Log<N> {
         }
     }
 
-    /// The length of the history.
+    /// Returns the length of the history.
     pub fn length(&self) -> Length<N>
         ensures { result ≡ length self.now.book.history }
     {
@@ -192,21 +194,21 @@ impl<N: Name> Log<N> {
         }
     }
 
-    /// The last operation whose replies were forgotten.
+    /// Returns the last operation whose replies were forgotten.
     pub fn forgotten(&self) -> u64
         ensures { result ≡ self.now.book.gone.operations }
     {
         self.forgotten
     }
 
-    /// Whether the history has room for more entries.
+    /// Returns whether the history has room for more entries.
     pub fn has_room(&self, more: usize) -> bool
         ensures { result ≡ has_room (entries_kept self.now.book) self.now.book.reserved more }
     {
         fits(self.count, self.reserved, more)
     }
 
-    /// Reserves room for more entries; false if the history hasn't that much room.
+    /// Reserves room for more entries. Returns false if the history hasn't that much room.
     pub fn keep(&mut self, more: usize) -> bool
         ensures answer { result ≡ has_room (entries_kept self.old.book) self.old.book.reserved more }
         ensures kept { result ≡ true → self.new.book.reserved ≡ self.old.book.reserved + more }
@@ -236,8 +238,8 @@ impl<N: Name> Log<N> {
         self.reserved -= less;
     }
 
-    /// Reserves room for all entries and replies that a request can cause, and returns the number of its targets. A refusal reserves
-    /// nothing.
+    /// Reserves room for all entries and replies that a request can cause. Returns the number of its targets. Refused
+    /// with `HistoryFull`, then `NoMemory`; then nothing is reserved.
     #[inline(always)]
     pub fn keep_request(&mut self, request: &Request) -> Result<usize, RoomFault>
         requires steps { steps_of request.now ≤ 64 }
@@ -287,8 +289,8 @@ impl<N: Name> Log<N> {
         append(&mut self.past, &mut self.count, seen)
     }
 
-    /// Appends the entries of an install: the Invalidate of the code that it replaces, if any, and then the Install. The receipt is that of
-    /// the Install.
+    /// Appends the entries of an install: the Invalidate of the replaced code, if any, and then the Install. Returns
+    /// the receipt of the Install.
     pub fn enter_install(&mut self, installed: Installed, method: u64) -> Receipt<N>
         requires reserved { 1 < self.old.book.reserved }
 
@@ -350,8 +352,8 @@ impl<N: Name> Log<N> {
         append(&mut self.past, &mut self.count, Snapshot::of(&entry))
     }
 
-    /// Forgets the entries so far, which no longer count, and the replies to the operations up to `last`. The memory of these replies is
-    /// reused.
+    /// Forgets the entries so far, so that they don't count, and the replies to the operations up to `last`. Their
+    /// memory is reused.
     pub fn forget(&mut self, last: u64)
         requires later { self.old.book.gone.operations ≤ last }
         requires given { last ≤ self.old.book.gone.operations + length self.old.lists }

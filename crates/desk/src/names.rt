@@ -40,8 +40,9 @@ fn first_place(names: &[u64], name: u64) -> Option<usize>
     None
 }
 
-// The index of a name among these. The first guess is the distance of the name from the first one, which is right for threads that started
-// one after another. A binary search follows, since most lists of names are in ascending order, and then a linear one.
+// The index of a name among these. The first guess is the distance of the name from the first one, which is right for
+// threads that started one after another. A binary search follows, since most lists of names are in ascending order,
+// and then a linear one.
 #[inline(always)]
 fn place_among(names: &[u64], name: u64) -> Option<usize>
     ensures some { IfSome result (λ i. (i < length names.now) × (slice_index names.now i ≡ name)) }
@@ -60,7 +61,7 @@ fn place_among(names: &[u64], name: u64) -> Option<usize>
     }
 }
 
-/// Whether a name is among these.
+/// Returns whether a name is among these.
 #[tactic(auto, using(operations::proofs::Names::listed_at))]
 #[inline(always)]
 pub fn is_among(names: &[u64], name: u64) -> bool
@@ -81,7 +82,7 @@ fn is_first_or_among(names: &[u64], name: u64) -> bool
     is_among(names, name)
 }
 
-// The names after the first `gone`, which are removed.
+// The names that aren't removed: those after the first `gone`.
 #[inline(always)]
 fn rest(names: &Vec<u64>, gone: usize) -> &[u64]
     requires { gone ≤ length names.now.items }
@@ -90,9 +91,9 @@ fn rest(names: &Vec<u64>, gone: usize) -> &[u64]
     names.as_slice().split_at(gone).1
 }
 
-// Removes a name from those after the first `gone`, and returns the new number of removed names at the front. No name is there twice, so at
-// most one is removed. If it is the first, as it mostly is, it stays in memory and is counted as removed; otherwise the names after it move
-// by one place.
+// Removes a name from those after the first `gone`, and returns the new number of removed names at the front. A name is
+// there once at most. The first one, which it mostly is, stays in memory and is counted as removed. For any other name,
+// those after it move by one place.
 #[inline(always)]
 fn take_off(names: &mut Vec<u64>, gone: usize, name: u64) -> usize
     requires gone { gone ≤ length names.old.items }
@@ -109,7 +110,7 @@ fn take_off(names: &mut Vec<u64>, gone: usize, name: u64) -> usize
     gone
 }
 
-// Appends those of the names that are live, in reserved room.
+// Appends the live ones of the names, in reserved room.
 #[inline(always)]
 fn push_live(list: &mut Vec<u64>, names: &[u64], live: &[Live])
     requires room { vec_len list.old + length names.now ≤ vec_capacity list.old }
@@ -132,7 +133,7 @@ fn all_gone(names: &[u64], live: &[Live]) -> bool
 }
 
 impl DueRoom {
-    /// Room without memory: it allocates nothing.
+    /// Makes room without memory. Doesn't allocate.
     pub fn new(alloc: Global) -> DueRoom
         ensures { result ≡ 0 }
     {
@@ -141,8 +142,8 @@ impl DueRoom {
         }
     }
 
-    /// Memory for `count` names, and never less than before; what there is gets reused if it is enough. Refused only if it isn't and memory
-    /// is refused.
+    /// Returns memory for `count` names, and never less than before. Reuses the present memory if it is enough. Refused
+    /// only if memory is refused.
     #[inline(always)]
     pub fn for_names(self, count: usize) -> Result<DueRoom, AllocError>
         ensures ok { IfOk result (λ room. count ≤ room + 1) }
@@ -155,13 +156,13 @@ impl DueRoom {
     }
 }
 
-/// The due names of an open request. The first one is stored inline: a thread that loads the cache lines of the request finds a single
-/// target there and needs no further line. Contracts see the names in order, and the capacity without the first name.
+/// The due names of an open request. The first one is stored inline, so that a thread which loads the cache lines of
+/// the request finds a single target there. Contracts see the names in order, and the capacity without the first name.
 #[derive(Drop)]
 pub struct Awaited {
     first: Option<u64>,
     later: Vec<u64>,
-    /// How many of the later names are removed but still in memory, at the front.
+    /// How many removed names are still in memory, at the front of the later ones.
     gone: usize,
 }
 
@@ -182,7 +183,7 @@ impl Model for Awaited {
 }
 
 impl Awaited {
-    /// The live ones of the request's targets, in this memory.
+    /// Returns the live targets of the request, in this memory.
     #[inline(always)]
     pub fn live_targets(room: DueRoom, request: &Request, live: &[Live]) -> Awaited
         requires room { length (targets_of request.now) ≤ room + 1 }
@@ -206,7 +207,7 @@ impl Awaited {
         }
     }
 
-    /// The memory of this list; the names are dropped.
+    /// Returns the memory of this list, and drops the names.
     #[inline(always)]
     pub fn into_room(self) -> DueRoom
         ensures { result ≡ self.capacity }
@@ -220,7 +221,7 @@ impl Awaited {
         DueRoom { later }
     }
 
-    /// Whether a name is among these.
+    /// Returns whether a name is among these.
     #[inline(always)]
     pub fn has(&self, name: u64) -> bool
         ensures { result ≡ among name self.now.items }
@@ -231,7 +232,7 @@ impl Awaited {
         }
     }
 
-    /// The first name, unless it is removed, and the later ones.
+    /// Returns the first name, unless it is removed, and the later ones.
     #[inline(always)]
     pub fn parts(&self) -> (Option<u64>, &[u64])
         ensures { option_to_list result.0 ++ result.1.now ≡ self.now.items }
@@ -239,8 +240,8 @@ impl Awaited {
         (self.first, rest(&self.later, self.gone))
     }
 
-    /// Whether a name is among these. The first name is tried before the others: if threads are served in the order of their names, it is
-    /// the one.
+    /// Returns whether a name is among these. Tries the first name first: if threads are served in the order of names,
+    /// it is the one.
     #[inline(always)]
     pub fn has_next(&self, name: u64) -> bool
         ensures { result ≡ among name self.now.items }
@@ -263,7 +264,7 @@ impl Awaited {
         }
     }
 
-    /// Whether none of the names is live.
+    /// Returns whether none of the names is live.
     #[inline(always)]
     pub fn are_gone(&self, live: &[Live]) -> bool
         ensures { result ≡ none_live live.now self.now.items }

@@ -1,4 +1,4 @@
-//! What the open requests mean for a thread.
+//! The meaning of the open requests for a thread.
 ghost use Rattle.std.specs.Prelude.{◌≡◌, ◌-◌, ◌<◌, ◌++◌, take, IfSome, vec_len, vec_capacity};
 ghost use Rattle.desk.specs.Fields.{at};
 ghost use Rattle.desk.specs.Pending.{least_pending};
@@ -14,7 +14,7 @@ use bodies::Name;
 use operations::job::HandshakeOp;
 
 impl<N: Name, J: HandshakeOp> Desk<N, J> {
-    /// What the open requests mean for the thread of the name: the result or the refusal of `tell` and `hold`.
+    /// Returns the meaning of the open requests for the thread of the name, which decides `tell` and `hold`.
     pub fn standing(&self, name: u64) -> Standing
         ensures { result ≡ standing (at self.now) name }
     {
@@ -26,8 +26,8 @@ impl<N: Name, J: HandshakeOp> Desk<N, J> {
         )
     }
 
-    /// The number of the oldest open request that is for a live thread and for which its poll word wasn't armed. `last` is the last number
-    /// with which the poll word was armed.
+    /// Returns the number of the oldest open request that is for a live thread and for which its poll word wasn't
+    /// armed. `last` is the number with which the poll word was last armed.
     #[inline(always)]
     pub fn untold(&self, name: u64, last: u64) -> Option<u64>
         ensures value { result ≡ untold (at self.now) name last }
@@ -36,8 +36,8 @@ impl<N: Name, J: HandshakeOp> Desk<N, J> {
         untold_in(self.opened.as_slice(), self.next_name, name, last)
     }
 
-    /// The number of the handshake that is the only open request; None if a census is open, or not exactly one request. It is the request
-    /// to arm the poll of each due thread for (`due_are_told`).
+    /// Returns the number of the only open request if it is a handshake, otherwise None. This is the request to arm
+    /// each due thread's poll for (`due_are_told`).
     #[inline(always)]
     pub fn only_handshake(&self) -> Option<u64>
         ensures { result ≡ only_handshake (at self.now).opened }
@@ -45,24 +45,24 @@ impl<N: Name, J: HandshakeOp> Desk<N, J> {
         only_handshake(self.opened.as_slice())
     }
 
-    /// The least number of a request that is open or waits; if there is none, the number that is given out next.
+    /// Returns the least number of an open or waiting request or, without one, the next number.
     pub fn least_pending(&self) -> u64
         ensures { result ≡ least_pending (at self.now) }
     {
         least_pending(&self.queue, self.opened.as_slice(), self.next_number)
     }
 
-    /// How far a live thread is with the open requests for which its poll word was armed. `last` is the last number with which it was
-    /// armed.
+    /// Returns the progress of a live thread with the open requests for which its poll word was armed. `last` is the
+    /// number with which it was last armed.
     pub fn progress(&self, name: u64, last: u64) -> Progress
         ensures { result ≡ progress (at self.now) name last }
     {
         progress_in(self.opened.as_slice(), self.next_name, name, last)
     }
 
-    /// Appends to the list the live threads that are due for an open request, or only for the oldest one. A thread is due if it was live at
-    /// the Open and has no Finish for the handshake, or the census isn't operated. They come in the order of their names, until the list's
-    /// capacity is used up.
+    /// Appends to the list the live threads that are due for an open request, or only for the oldest. A thread is due
+    /// if it was live at the Open and has no Finish for the handshake, or the census isn't operated. They come in the
+    /// order of names, as far as the list's capacity goes.
     #[inline(always)]
     pub fn list_due(&self, of_oldest: bool, list: &mut Vec<Live>)
         ensures items { list.new.items
@@ -74,8 +74,8 @@ impl<N: Name, J: HandshakeOp> Desk<N, J> {
         list_due(opened, self.live.as_slice(), list);
     }
 
-    /// Whether the thread of the name is due for the oldest open request: it is live, was live at the Open, and has no Finish for the
-    /// handshake, or the census isn't operated.
+    /// Returns whether the thread of the name is due for the oldest open request: it is live, was live at the Open, and
+    /// has no Finish for the handshake, or the census isn't operated.
     #[inline(always)]
     pub fn is_awaited(&self, name: u64) -> bool
         ensures { result ≡ is_awaited (at self.now) name }

@@ -1,4 +1,4 @@
-//! Requests are opened and closed.
+//! Opens and closes requests.
 ghost use Rattle.std.specs.Prelude.{◌≡◌, ◌+◌, length, false, Some, None, IfOk, IfErr, OnOk, map};
 ghost use Rattle.operations.specs.Requests.{kind_of};
 ghost use Rattle.desk.specs.Machine.{Current as CurrentOf, steps_of};
@@ -23,7 +23,8 @@ use operations::queue::Waiting;
 use std::collections::VecDeque;
 
 impl<N: Name, J: HandshakeOp> Desk<N, J> {
-    /// Opens the oldest waiting request. At most four handshakes may be open, or one census alone.
+    /// Opens the oldest waiting request, and returns its number and the receipt. At most four handshakes are open, or
+    /// one census alone. Refusals in the order of `OpenFault`.
     pub fn open(&mut self) -> Result<(u64, Receipt<N>), OpenFault>
         ensures ok { IfOk result (λ r. Enters self.old self.new (Entry.Open r.0) r.1) }
         ensures reserved { OnOk result
@@ -59,8 +60,9 @@ impl<N: Name, J: HandshakeOp> Desk<N, J> {
         Ok((number, self.log.enter(Entry::Open(number))))
     }
 
-    /// Closes the open request with the number, or the oldest one if no number is given, and returns its jobs that weren't taken. `held`
-    /// has the bodies that are held. The receipt shows the kind of the request, and the number of the request that was the oldest open one.
+    /// Closes the open request of this number or, without a number, the oldest. Returns its number, its jobs that
+    /// weren't taken, and the receipt, which shows the kind of the request and the number of the oldest request open
+    /// then. `held` are the held bodies. Refusals in the order of `CloseFault`.
     pub fn close(
         &mut self,
         number: Option<u64>,
@@ -116,7 +118,7 @@ impl<N: Name, J: HandshakeOp> Desk<N, J> {
         ))
     }
 
-    /// The kind of the oldest open request; None if no request is open.
+    /// Returns the kind of the oldest open request; None if no request is open.
     #[inline(always)]
     pub fn open_kind(&self) -> Option<Kind>
         ensures { result ≡ open_kind (at self.now) }
@@ -127,7 +129,7 @@ impl<N: Name, J: HandshakeOp> Desk<N, J> {
         Some(self.opened[0].request.kind())
     }
 
-    /// How many requests are open.
+    /// Returns how many requests are open.
     #[inline(always)]
     pub fn open_count(&self) -> usize
         ensures { result ≡ length (at self.now).opened }
@@ -135,7 +137,7 @@ impl<N: Name, J: HandshakeOp> Desk<N, J> {
         self.opened.len()
     }
 
-    /// The number of the oldest open request; None if no request is open.
+    /// Returns the number of the oldest open request; None if no request is open.
     #[inline(always)]
     pub fn open_number(&self) -> Option<u64>
         ensures { result ≡ number_of (oldest_of (at self.now).opened) }

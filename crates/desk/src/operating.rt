@@ -1,4 +1,4 @@
-//! The open census is operated, and the evidence that an Operate was entered.
+//! Operates the open census, and has the evidence of its Operate.
 ghost use Rattle.std.specs.Prelude.{◌≡◌, ◌+◌, true, Some, None, IfOk, IfErr, OnOk};
 ghost use Rattle.bodies.specs.Census.{IsCensus};
 ghost use Rattle.desk.specs.Refusals.{operate_refused, AreSettled, are_all, MayOperate, operate_said};
@@ -14,8 +14,8 @@ use operations::job::HandshakeOp;
 use std::marker::Model;
 use std::snapshot::Snapshot;
 
-/// Evidence that the history of the desk of N has this Operate, with the census of the bodies over which it was
-/// entered. Only the desk makes it, when it enters the Operate. It can't be copied.
+/// Evidence of an Operate in the history of N's desk, with the census of the bodies over which it was entered. Only the
+/// desk makes it, when it enters the Operate. It can't be copied.
 #[derive(Drop)]
 pub struct Operating<N: Name> {
     receipt: Receipt<N>,
@@ -40,7 +40,7 @@ impl<N: Name> Operating<N> {
         }
     }
 
-    /// The receipt of the entry.
+    /// Returns the receipt of the entry.
     pub fn receipt(self) -> Receipt<N>
         ensures { result ≡ self.stands }
     {
@@ -49,8 +49,9 @@ impl<N: Name> Operating<N> {
 }
 
 impl<N: Name, J: HandshakeOp> Desk<N, J> {
-    /// Enters the Operate of the open census over these bodies, which are settled and exactly those of all live threads. The list is the
-    /// census of their stacks; the receipt shows it.
+    /// Enters the Operate of the open census over these bodies, which are settled and exactly those of all live
+    /// threads. `list` is the census of their stacks, which the receipt shows. Returns the census's number and the
+    /// receipt. Refusals in the order of `OperateFault`.
     pub fn operate(
         &mut self,
         bodies: &[Body<N>],
@@ -82,7 +83,7 @@ impl<N: Name, J: HandshakeOp> Desk<N, J> {
         ))
     }
 
-    /// Why `operate` over these bodies is refused; None if it isn't.
+    /// Returns why `operate` over these bodies is refused, or None.
     pub fn operate_fault(&self, bodies: &[Body<N>]) -> Option<OperateFault>
         ensures { operate_said (at self.now) bodies.now result }
     {

@@ -1,4 +1,4 @@
-//! Codes are looked for, weighed and reclaimed.
+//! Looks for codes, weighs them and begins to reclaim them.
 ghost use Rattle.std.specs.Prelude.{◌≡◌, ℕ, ◌+◌, ◌<◌, ◌≤◌, ◌^◌, length, true, false, nat_le, Some, None, IfOk, IfErr, IfSome, IfNone, OnOk, OnErr, ◌≢◌};
 ghost use Rattle.frames.specs.BoardViews.{went_round, looked_at, slot_of};
 ghost use Rattle.frames.specs.BoardStep.{is_past};
@@ -23,7 +23,11 @@ use operations::Request;
 use operations::job::HandshakeOp;
 
 impl<N: Name, J: HandshakeOp> Desk<N, J> {
-    /// The first step of reclaiming a code: the request, if one is given, is queued, and the next moment (epoch) begins.
+    /// Does the first step of reclaiming a code: queues the request, if there is one, and begins the next moment
+    /// (epoch). Returns the request's number and receipt.
+    ///
+    /// # Errors
+    /// The first fault in the order of `ReclaimFault`, with the jobs.
     pub fn begin_reclaim(
         &mut self,
         board: &Board,
@@ -101,7 +105,7 @@ impl<N: Name, J: HandshakeOp> Desk<N, J> {
         }
     }
 
-    /// Begins the next moment (epoch).
+    /// Begins the next moment (epoch). Refused at the last one.
     pub fn round(&mut self, board: &Board) -> Result<(), Spent>
         requires board { board.now ≡ N.board }
 
@@ -118,8 +122,8 @@ impl<N: Name, J: HandshakeOp> Desk<N, J> {
         self.codes.round(board)
     }
 
-    /// Looks at a place for a code that is not entrant. Returns whether the place is covered: it can't have an uncounted frame of the code
-    /// any more.
+    /// Looks at a place for a code that is not entrant. Returns whether the place is covered: it can't have an
+    /// uncounted frame of the code any more. Refusals in the order of `RetireFault`.
     pub fn look(&mut self, board: &Board, serial: u64, place: usize) -> Result<bool, RetireFault>
         requires board { board.now ≡ N.board }
         requires place { place < N.board.places }
@@ -143,7 +147,7 @@ impl<N: Name, J: HandshakeOp> Desk<N, J> {
         self.codes.look(board, serial, place)
     }
 
-    /// Looks for the code at each place below `places`, in ascending order.
+    /// Looks for the code at each place below `places`, in ascending order. Refusals in the order of `RetireFault`.
     #[inline(always)]
     pub fn look_at_all(
         &mut self,
@@ -163,8 +167,9 @@ impl<N: Name, J: HandshakeOp> Desk<N, J> {
         self.codes.look_at_all(board, serial, places)
     }
 
-    /// Weighs a code. If it has no activation left, it becomes a zombie: that is stored in the board and entered in the history. The result
-    /// also has the receipt of the weighing.
+    /// Weighs a code. If it has no activation left, it becomes a zombie, in the history and in the board. Returns the
+    /// result, the receipt of the weighing and, for a zombie, that of its Retire. Refusals in the order of
+    /// `RetireFault`.
     pub fn weigh(
         &mut self,
         board: &Board,
@@ -205,7 +210,7 @@ impl<N: Name, J: HandshakeOp> Desk<N, J> {
         Ok((said, weighing, Some(self.log.enter(Entry::Retire(serial)))))
     }
 
-    /// Why `weigh` refuses the code; None if it doesn't.
+    /// Returns why `weigh` refuses the code; None if it doesn't.
     pub fn weigh_fault(&self, serial: u64) -> Option<RetireFault>
         ensures { result ≡ retire_fault (unfreed (at self.now).table.codes serial) }
     {

@@ -7,7 +7,7 @@ ghost use Rattle.desk.specs.declared.replies.Span.{Span as SpanOf};
 use std::alloc::{AllocError, Global};
 use std::marker::Model;
 
-/// Where the replies to an operation begin in the block, how many there are, and how many more fit after them.
+/// A span of the block: where the replies to an operation begin, how many there are, and how many more fit after them.
 #[derive(Clone, Copy)]
 pub struct Span {
     start: usize,
@@ -15,8 +15,8 @@ pub struct Span {
     room: u32,
 }
 
-/// The replies by operation, each with its thread's name, in the order of arrival. Contracts see the replies to each operation with the
-/// number that may still follow, and for how many more operations and for how many more replies there is memory.
+/// The replies by operation, each with its thread's name, in the order of arrival. Contracts see the replies to each
+/// operation with the number that may still follow, and the memory for further operations and replies.
 #[derive(Drop)]
 pub struct Replies {
     all: Vec<(u64, u64)>,
@@ -59,7 +59,7 @@ fn drop_first<T: Copy>(list: &mut Vec<T>, count: usize)
     list.truncate(kept);
 }
 
-// Moves the spans `less` places towards the front, since as many places before them are dropped.
+// Moves the spans `less` places towards the front, since that many places before them are dropped.
 fn shift(spans: &mut Vec<Span>, less: usize)
     requires { (k : ℕ) (s : SpanOf)
         → k < length spans.old.items
@@ -86,7 +86,7 @@ impl Replies {
         }
     }
 
-    /// How many operations there are.
+    /// Returns how many operations there are.
     pub fn len(&self) -> usize
         ensures { result ≡ length self.now.lists }
     {
@@ -154,7 +154,8 @@ impl Replies {
         shift(&mut self.spans, from);
     }
 
-    /// The replies to the operation at an index, each with its thread's name. Refused only if memory is refused.
+    /// Returns the replies to the operation at an index, each with its thread's name. Refused only if memory is
+    /// refused.
     pub fn copied(&self, alloc: Global, place: usize) -> Result<Vec<(u64, u64)>, AllocError>
         requires { place < length self.now.lists }
         ensures { IfOk result (λ list.
@@ -169,7 +170,7 @@ impl Replies {
     }
 }
 
-/// The index of an operation's list among `count` lists: operation numbers rise by one from 1.
+/// Returns the index of an operation's list among `count` lists. Operation numbers rise by one from 1.
 pub fn place_of(op: u64, count: usize) -> Option<usize>
     ensures some { IfSome result (λ place. (place + 1 ≡ op) × (place < count)) }
     ensures none { IfNone result ((op ≡ 0) ⊎ (count < op)) }

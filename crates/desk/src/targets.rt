@@ -1,4 +1,4 @@
-// What the open requests mean for a thread.
+// The meaning of the open requests for a thread.
 ghost use Rattle.std.specs.Prelude.{◌≡◌, ◌&&◌, ◌<◌, ◌++◌, ◌∷◌, [], ◌-◌, false, nat_lt, map, take, vec_capacity, vec_len, IfSome};
 ghost use Rattle.std.specs.Option.{option_to_list};
 ghost use Rattle.operations.specs.Names.{among};
@@ -14,7 +14,7 @@ use crate::lists::{found_at, is_census, kind_among};
 use crate::names::is_among;
 use operations::Request;
 
-/// The place at which the name is live.
+/// Returns the place of the live name.
 pub fn place_of(live: &[Live], name: u64) -> Option<usize>
     requires rising { AreRising 0 (names_of live.now) }
     ensures { result ≡ place_of name live.now }
@@ -44,7 +44,7 @@ fn behind(live: &[Live], name: u64) -> &[Live]
     }
 }
 
-/// The name that is live at the place.
+/// Returns the live name at the place.
 pub fn name_at(live: &[Live], place: usize) -> Option<u64>
     ensures { result ≡ name_at place live.now }
 {
@@ -58,7 +58,7 @@ pub fn name_at(live: &[Live], place: usize) -> Option<u64>
     None
 }
 
-/// The least live name above this one.
+/// Returns the least live name above this one.
 pub fn live_after(live: &[Live], name: u64) -> Option<u64>
     requires rising { AreRising 0 (names_of live.now) }
     ensures { result ≡ live_after name live.now }
@@ -95,7 +95,8 @@ fn is_owed<J>(request: &Opened<J>, name: u64) -> bool
     }
 }
 
-// Whether the request is for the name, and the name was given out before the Open: if its thread is live now, it was live then.
+// Whether the request is for the name, and the name was given out before the Open. If its thread is live, it was live
+// then.
 fn is_target_of<J>(request: &Opened<J>, next: u64, name: u64) -> bool
     ensures { result ≡ is_target_of next name (current_of request.now) }
 {
@@ -128,7 +129,7 @@ fn is_target_of_one<J>(opened: &[Opened<J>], next: u64, name: u64) -> bool
     false
 }
 
-/// What the open requests mean for the thread of the name.
+/// Returns the meaning of the open requests for the thread of the name.
 pub fn standing_to<J>(opened: &[Opened<J>], next: u64, live: &[Live], name: u64) -> Standing
     requires rising { AreRising 0 (names_of live.now) }
     ensures { result ≡ standing_to next live.now name (map current_of opened.now) }
@@ -151,14 +152,16 @@ pub fn standing_to<J>(opened: &[Opened<J>], next: u64, live: &[Live], name: u64)
     })
 }
 
-// Whether the request is for the live thread and its number is greater than `last`, with which the thread's poll word was armed last.
+// Whether the request is for the live thread, with a number greater than `last`, with which its poll word was last
+// armed.
 fn is_untold<J>(request: &Opened<J>, next: u64, name: u64, last: u64) -> bool
     ensures { result ≡ is_untold next name last (current_of request.now) }
 {
     is_target_of(request, next, name) && last < request.number
 }
 
-/// The number of the oldest request that is for a live thread and greater than `last`, with which its poll word was armed last.
+/// Returns the number of the oldest request for a live thread that is greater than `last`, with which its poll word was
+/// last armed.
 pub fn untold_in<J>(opened: &[Opened<J>], next: u64, name: u64, last: u64) -> Option<u64>
     ensures value { result ≡ untold_in next name last (map current_of opened.now) }
     ensures later { IfSome result (λ number. last < number) }
@@ -199,7 +202,7 @@ fn is_undone<J>(request: &Opened<J>, next: u64, name: u64, last: u64) -> bool
     is_told(request, next, name, last) && is_owed(request, name)
 }
 
-/// How far a live thread is with the open requests up to `last`, the number with which its poll word was armed last.
+/// Returns the progress of a live thread with the open requests up to `last`, with which its poll word was last armed.
 pub fn progress_in<J>(opened: &[Opened<J>], next: u64, name: u64, last: u64) -> Progress
     ensures { result ≡ progress_in next name last (map current_of opened.now) }
 {
@@ -239,7 +242,7 @@ fn is_due<J>(thread: Live, opened: &[Opened<J>]) -> bool
     false
 }
 
-/// Whether the thread of the name is live and due for one of the requests.
+/// Returns whether the thread of the name is live and due for one of the requests.
 pub fn is_due_name<J>(opened: &[Opened<J>], live: &[Live], name: u64) -> bool
     requires rising { AreRising 0 (names_of live.now) }
     ensures { result ≡ is_due_name name (map current_of opened.now) live.now }
@@ -257,7 +260,7 @@ pub fn is_due_name<J>(opened: &[Opened<J>], live: &[Live], name: u64) -> bool
     false
 }
 
-// Whether the thread was live at an Open (its name is less than `before`, the next name at that Open) and is one of the names that are due.
+// Whether the thread was live at an Open and is among the due names. `before` is the next name at that Open.
 #[inline(always)]
 fn is_due_among(thread: Live, before: u64, first: Option<u64>, names: &[u64]) -> bool
     ensures { result ≡ (nat_lt thread.name before
@@ -270,8 +273,8 @@ fn is_due_among(thread: Live, before: u64, first: Option<u64>, names: &[u64]) ->
         }
 }
 
-// Appends to the list the live threads that are due for a handshake. It reads the request's fields once, before the loop: after a write
-// into the list the compiler would read them from memory again.
+// Appends to the list the live threads that are due for a handshake. Reads the request's fields once, before the loop:
+// after a write into the list the compiler would read them from memory again.
 #[inline(always)]
 fn list_due_of<J>(request: &Opened<J>, live: &[Live], list: &mut Vec<Live>)
     requires handshake { is_census request.now.request ≡ false }
@@ -294,8 +297,8 @@ fn list_due_of<J>(request: &Opened<J>, live: &[Live], list: &mut Vec<Live>)
     }
 }
 
-/// Appends to the list the live threads that are due for one of the requests, in the order of their names, until the list's capacity is
-/// used up.
+/// Appends to the list the live threads that are due for one of the requests, in the order of names, as far as the
+/// list's capacity goes.
 #[inline(always)]
 pub fn list_due<J>(opened: &[Opened<J>], live: &[Live], list: &mut Vec<Live>)
     ensures items { list.new.items
@@ -339,7 +342,7 @@ pub fn of_which<J>(opened: &[Opened<J>], of_oldest: bool) -> &[Opened<J>]
     if of_oldest { oldest(opened) } else { opened }
 }
 
-/// The number of the handshake that is the only open request.
+/// Returns the number of the only open request if it is a handshake, otherwise None.
 #[inline(always)]
 pub fn only_handshake<J>(opened: &[Opened<J>]) -> Option<u64>
     ensures { result ≡ only_handshake (map current_of opened.now) }

@@ -1,4 +1,4 @@
-//! Threads start and exit; the list of live threads.
+//! Starts and exits of threads, and the list of live threads.
 ghost use Rattle.std.specs.Prelude.{◌≡◌, ℕ, ◌+◌, ◌<◌, true, false, Some, IfOk, IfErr, OnOk, OnErr};
 ghost use Rattle.desk.specs.Machine.{is_taken, names_of, lawful};
 ghost use Rattle.desk.specs.Refusals.{start_refused, MayStart};
@@ -17,7 +17,8 @@ use operations::job::HandshakeOp;
 use std::alloc::AllocError;
 
 impl<N: Name, J: HandshakeOp> Desk<N, J> {
-    /// Enters the Start of the next name in the least free place. `has_image` says whether there is memory for the thread's stack image.
+    /// Enters the Start of the next name in the least free place, and returns the name, the place and the receipt.
+    /// `has_image`: there is memory for the thread's stack image. Refusals in the order of `StartFault`.
     pub fn start(&mut self, has_image: bool) -> Result<(u64, usize, Receipt<N>), StartFault>
         ensures ok { IfOk result (λ r.
             Enters self.old self.new (Entry.Start r.0 r.1) r.2
@@ -57,7 +58,7 @@ impl<N: Name, J: HandshakeOp> Desk<N, J> {
         Ok((name, place, self.log.enter(Entry::Start(name, place))))
     }
 
-    /// Enters the Exit of a live name.
+    /// Enters the Exit of a live name. Refused with `NotLive`.
     pub fn exit(&mut self, name: u64) -> Result<Receipt<N>, NotLive>
         ensures ok { IfOk result (λ r. Enters self.old self.new (Entry.Exit name) r) }
         ensures reserved { OnOk result
@@ -74,21 +75,21 @@ impl<N: Name, J: HandshakeOp> Desk<N, J> {
         Ok(self.log.enter(Entry::Exit(name)))
     }
 
-    /// The live names, in the order in which they started. Refused only if memory is refused.
+    /// Returns the live names, in the order in which they started. Refused only if memory is refused.
     pub fn live(&self) -> Result<Vec<u64>, AllocError>
         ensures { IfOk result (λ names. names.items ≡ names_of (at self.now).live) }
     {
         names_of(self.live.as_slice(), self.alloc)
     }
 
-    /// The name that is live at the place.
+    /// Returns the live name at the place.
     pub fn name_at(&self, place: usize) -> Option<u64>
         ensures { result ≡ name_at place (at self.now).live }
     {
         name_at(self.live.as_slice(), place)
     }
 
-    /// The least live name above this one.
+    /// Returns the least live name above this one.
     pub fn live_after(&self, name: u64) -> Option<u64>
         ensures { result ≡ live_after name (at self.now).live }
     {

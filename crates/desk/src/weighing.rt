@@ -1,4 +1,4 @@
-//! The evidence that a code was weighed.
+//! The evidence of a weighing.
 ghost use Rattle.std.specs.Prelude.{◌≡◌};
 
 use crate::log::Length;
@@ -7,8 +7,8 @@ use bodies::Name;
 use std::marker::Model;
 use std::snapshot::Snapshot;
 
-/// Evidence that the desk of N weighed a code: its serial, the result, and the length of the history then. Only the desk makes it, when it
-/// weighs. It can't be copied.
+/// Evidence that N's desk weighed a code: its serial, the result, and the length of the history then. Only the desk
+/// makes it, when it weighs. It can't be copied.
 #[derive(Drop)]
 pub struct Weighing<N: Name> {
     serial: Snapshot<u64>,

@@ -12,11 +12,12 @@ pub enum ThreadCall {
     Ret,
     BackEdge,
     Publish,
+    // Where the thread goes, and from where it comes back.
     ToVm,
-    FromVm,
     ToNative,
-    FromNative,
     Block,
+    FromVm,
+    FromNative,
     Unblock,
     Stop,
 }

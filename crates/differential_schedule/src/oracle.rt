@@ -21,12 +21,6 @@ use system::events::{Act, Event};
 use test_tools::keep;
 use thread_state::State;
 
-/// The most changes of a publication: each of 256 frames may have been replaced by another.
-const CHANGES: usize = 512;
-
-/// The most handshakes that are open at once.
-const OPEN: usize = 4;
-
 /// A live thread.
 #[derive(Clone, Copy)]
 pub struct Live {
@@ -105,6 +99,12 @@ pub struct Oracle {
     /// The counts of the last census.
     pub counts: Vec<(u64, u32)>,
 }
+
+/// The most changes of a publication: each of 256 frames may have been replaced by another.
+const CHANGES: usize = 512;
+
+/// The most handshakes that are open at once.
+const OPEN: usize = 4;
 
 fn is_listed(targets: &Option<Vec<u64>>, name: u64) -> bool {
     match targets {

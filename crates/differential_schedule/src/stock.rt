@@ -5,6 +5,13 @@ use crate::calls::Handshake;
 use operations::Ask;
 use std::alloc::{AllocError, Global};
 
+/// A job: its name and its query.
+#[derive(Clone, Copy)]
+pub struct Want {
+    pub name: u64,
+    pub ask: Ask,
+}
+
 // For each name that may be asked there are `SAME` jobs that ask for the depth, `SAME` that ask for the top frame, and one for the count of
 // each serial below `CODES`. Serial 0, which no code has, is among them.
 const SAME: u64 = 3;
@@ -13,13 +20,6 @@ const CODES: u64 = 24;
 
 // How many more names than places are given out. Handshakes can list these names too.
 const LATER: u64 = 24;
-
-/// A job: its name and its query.
-#[derive(Clone, Copy)]
-pub struct Want {
-    pub name: u64,
-    pub ask: Ask,
-}
 
 /// The jobs at the beginning of a schedule.
 pub fn wanted(alloc: Global, places: usize) -> Result<Vec<Want>, AllocError> {

@@ -2,7 +2,7 @@
 use crate::total::play_seed;
 use differential_schedule::losses::{ALL, Loss, Lost};
 use differential_schedule::play::Stopped;
-use std::alloc::{AllocError, Global};
+use std::alloc::Global;
 use std::fmt;
 use std::sync::Wait;
 
@@ -19,12 +19,6 @@ pub enum Untold {
     NoMemory,
     /// A core that drops this isn't found in any of the schedules.
     Missed(Lost),
-}
-
-impl From<AllocError> for Untold {
-    fn from(_: AllocError) -> Untold {
-        Untold::NoMemory
-    }
 }
 
 impl fmt::Display for Untold {
@@ -46,11 +40,11 @@ pub fn lose_all<R: Wait>(rt: &R, alloc: Global) -> Result<(), Untold> {
     Ok(())
 }
 
-fn is_found<R: Wait>(rt: &R, alloc: Global, lost: Lost) -> Result<bool, AllocError> {
+fn is_found<R: Wait>(rt: &R, alloc: Global, lost: Lost) -> Result<bool, Untold> {
     for before in 0..SCHEDULES {
         match play_seed(rt, alloc, STEP * before + 1, Some(Loss { lost, before })) {
             Err(Stopped::Differ(_)) => return Ok(true),
-            Err(Stopped::NoMemory) => return Err(AllocError),
+            Err(Stopped::NoMemory) => return Err(Untold::NoMemory),
             Err(Stopped::Few(_)) | Ok(_) => {}
         }
     }

@@ -1,4 +1,4 @@
--- States go forward, edit by edit.
+-- States go forward with each edit.
 use Rattle.std.proofs.Common.{◌≡◌, ◌⊎◌, ℕ, suc, ◌+◌, ◌≤◌, ◌∙◌, sym, ap, refl, inl, inr, List, [], ◌∷◌, length, Option, Some, None, arith}
 use Rattle.std.specs.Prelude.{slice_get}
 use Rattle.std.proofs.lemmas.Bool.{cases_eq}
@@ -21,14 +21,14 @@ numbered_from : (first : ℕ) (codes : List Code) → ((place : ℕ) (code : Cod
 numbered_from first [] h = tt
 numbered_from first (c ∷ codes) h = ((let here = h 0 c refl in omega (arith, here)), numbered_from (first + 1) codes (λ place code at. (let its = h (suc place) code at in omega (arith, its))))
 
--- one step after another
+-- going forward is transitive
 then_forward : (first second third : List Code) → GoForward first second → GoForward second third → GoForward first third
 then_forward first second third f g serial code h =
     let once = f serial code h in let twice = g serial (record code { state = once.0 }) once.1 in
     let low = once.2 in let high = twice.2 in
     (twice.0, twice.1, omega (arith, low, high))
 
--- an install leaves all codes as they are
+-- an install leaves all codes unchanged
 install_forward : (codes : List Code) (method slot : ℕ) → IsNumberedFrom 1 codes → GoForward codes (with_code codes method slot)
 install_forward codes method slot numbered serial code h = (code.state, (put_code codes (record { serial = length codes + 1; slot = slot; method = method; state = InUse }) numbered refl).others serial other ∙ h, omega arith)
   where
@@ -51,7 +51,7 @@ become_forward codes serial state old numbered found later other code h = by (ca
         (state, ap (code_of (with_state codes serial state)) at_serial ∙ (put.here ∙ ap (λ (c : Code). Some (record c { state = state })) same), rw (← same) later)
     by (inr ne) = (code.state, put.others other ne ∙ h, omega arith)
 
--- what isn't refused has the state before
+-- a code whose change isn't refused is in an earlier state
 invalidate_found : (o : Option Code) → invalidate_fault o ≡ None → (code : Code) × (o ≡ Some code) × (rank code.state ≤ rank NotEntrant)
 invalidate_found None h = cc
 invalidate_found (Some code) h = (code, refl, by code.state refl)

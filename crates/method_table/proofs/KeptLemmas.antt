@@ -1,4 +1,4 @@
--- What the fields of a table answer is what its codes say, and each edit keeps it so.
+-- The fields of a table give the same answers as its codes, and each edit preserves this.
 use Rattle.std.proofs.Common.{◌≡◌, ℕ, zero, suc, ◌+◌, ◌^◌, ◌<◌, ◌≤◌, ◌∙◌, sym, Bool, true, false, not, ◌&&◌, List, [], ◌∷◌, ◌++◌, length, set, Option, Some, None, refl, ap, subst, cond, arith, inl, inr, ◌⊎◌, length-append, length-set, replicate}
 use Rattle.std.specs.Prelude.{find, slice_get, is_some, option_map, nat_lt, nat_le, ◌==◌}
 use Rattle.std.specs.Option.{option_or}
@@ -21,7 +21,7 @@ use Rattle.method_table.proofs.Serials.{code_of_serial, not_before, not_past, wa
 use Rattle.method_table.proofs.Newest.{newest_added, newest_stated}
 use Rattle.method_table.proofs.Ties.{tied_put, current_added, current_dropped, current_moved}
 
--- a write to a list puts an item at a place
+-- a write to a list stores an item at an index
 put_set_here : {X : Type 0} (xs : List X) (i : ℕ) (y : X) → i < length xs → slice_get (set xs i y) i ≡ Some y
 put_set_here [] i y l = absurd (omega arith)
 put_set_here (x ∷ xs) zero y l = refl
@@ -67,7 +67,7 @@ few_where records code slots false few l e = omega (arith, length-set records co
 pub few_records : (records : List Code) (code : Code) (slots : ℕ) → length records ≤ slots → code.slot < slots → length (with_record records code) ≤ slots
 few_records records code slots few l = few_where records code slots (code.slot == length records) few l refl
 
--- a new code is put at the next serial
+-- a new code gets the next serial
 or_none : {X : Type 0} (o : Option X) → option_or o None ≡ o
 or_none None = refl
 or_none (Some x) = refl
@@ -84,7 +84,7 @@ put_code codes new numbered e =
           find-append (λ c. c.serial == serial) codes (new ∷ []) ∙ (rw head (or_none (code_of codes serial))));
     }
 
--- a change of state puts the changed code at its serial
+-- a change of state changes the code of its serial
 in_state_here : (serial : ℕ) (state : CodeState) (code : Code) (b : Bool) → b ≡ true → cond b (record code { state = state }) code ≡ record code { state = state }
 in_state_here serial state code b e = rw e refl
 
@@ -102,7 +102,7 @@ put_state codes serial state code h =
           code_of-with_state serial other state codes ∙ in_state_other serial state (code_of codes other) (λ c e. ne_eqb c.serial serial (λ k. ne (sym (code_of_serial codes other c e) ∙ k)));
     }
 
--- the reasons for which a method gets no code
+-- the reasons to refuse an install
 module _ (table : TableView) (method : ℕ) where
   pub no_such_method : table.methods ≤ method → install_fault table method ≡ Some install.NoSuchMethod
   no_such_method l = rw (le-ltb method table.methods l) refl
@@ -118,7 +118,7 @@ module _ (table : TableView) (method : ℕ) where
       pub no_fault : next_serial table.codes ≤ last_number → install_fault table method ≡ None
       no_fault l = rw (lt-ltb method table.methods within) (rw free (rw (le-leb (next_serial table.codes) last_number l) refl))
 
--- where there is no such reason, no test failed
+-- without such a reason, no test failed
 accepted_where : (a b c : Bool) → cond a (cond b (cond c None (Some install.SerialsSpent)) (Some install.TableFull)) (Some install.NoSuchMethod) ≡ None → (a ≡ true) × (b ≡ true) × (c ≡ true)
 accepted_where true true true h = (refl, refl, refl)
 accepted_where true true false h = cc
@@ -157,7 +157,7 @@ empty_kept codes records slots methods slot_of current c r none u small =
     })
 
 module _ (codes : List Code) (slots next : ℕ) (records : List Code) (slot_of : ℕ → Option ℕ) (current : List (Option CodeId)) (taken : ℕ) (kept : IsKept codes slots next records slot_of current taken) where
-  -- a noted slot has the record of the serial's unfreed code, and without one there is no such code
+  -- an indexed slot has the record of the serial's unfreed code; without an indexed slot there is no such code
   found_noted_where : (serial slot : ℕ) (o : Option Code) → code_of codes serial ≡ o → kept_slot o ≡ Some slot → (code : Code) × (unfreed codes serial ≡ Some code) × (slice_get records slot ≡ Some code)
   found_noted_where serial slot None e h = (let no : None ≡ Some slot = h in cc)
   found_noted_where serial slot (Some c) e h =
@@ -177,7 +177,7 @@ module _ (codes : List Code) (slots next : ℕ) (records : List Code) (slot_of :
   held_within slot None e h = absurd (false≢true h)
   held_within slot (Some c) e h = slice_get_within records slot c e
 
-  -- where a slot's record is of a code that isn't freed, it is that of the serial's unfreed code
+  -- a slot's record of an unfreed code is the unfreed code of its serial
   pub record_is : (slot : ℕ) (record_at : Code) → slice_get records slot ≡ Some record_at → takes_slot record_at.state ≡ true → Some record_at ≡ unfreed codes record_at.serial
   record_is slot record_at e takes = sym (unfreed_is 1 record_at.serial codes record_at kept.numbered (kept.tied.listed slot record_at e takes).0 takes)
 
@@ -219,7 +219,7 @@ module _ (codes : List Code) (slots next : ℕ) (records : List Code) (slot_of :
   pub none_past : (method : ℕ) → length current ≤ method → in_use_for codes method ≡ None
   none_past method l = none_past_where method (in_use_for codes method) l refl
 
-  -- a slot is taken where its record is of an unfreed code
+  -- a slot is taken if its record is of an unfreed code
   taken_where : (slot : ℕ) (o record_at : Option Code) → find (λ c. (c.slot == slot) && takes_slot c.state) codes ≡ o → slice_get records slot ≡ record_at → is_some o ≡ holds record_at
   taken_where slot (Some c) record_at e f =
       let passes = and_parts (c.slot == slot) (takes_slot c.state) (find_passes (λ c. (c.slot == slot) && takes_slot c.state) codes c e) in
@@ -253,7 +253,7 @@ module _ (codes : List Code) (slots next : ℕ) (records : List Code) (slot_of :
   pub state_found : (serial : ℕ) (code : Code) → unfreed codes serial ≡ Some code → Some code.state ≡ option_map (λ (c : Code). c.state) (code_of codes serial)
   state_found serial code f = rw (is_unfreed serial codes code kept.numbered f).0 refl
 
-  -- a code that was given out and isn't unfreed is freed
+  -- a code that was installed and isn't unfreed is freed
   freed_where : (serial : ℕ) (c : Code) (state : CodeState) → c.state ≡ state → unfreed codes serial ≡ None → code_of codes serial ≡ Some c → c.state ≡ Freed
   freed_where serial c Freed e f h = e
   freed_where serial c InUse e f h = let there = unfreed_is 1 serial codes c kept.numbered h (rw e refl) in let no : None ≡ Some c = sym f ∙ there in cc
@@ -267,7 +267,7 @@ module _ (codes : List Code) (slots next : ℕ) (records : List Code) (slot_of :
   pub state_freed : (serial : ℕ) → unfreed codes serial ≡ None → is_some (code_of codes serial) ≡ true → Some Freed ≡ option_map (λ (c : Code). c.state) (code_of codes serial)
   state_freed serial f given = state_freed_where serial (code_of codes serial) refl f given
 
-  -- where an entry leads
+  -- the result of a call through a code
   entry_current_where : (method serial : ℕ) (id : CodeId) (o : Option Code) → in_use_for codes method ≡ o → Some id ≡ option_map id_of o → id.serial ≡ serial → Some (entry.Enters id) ≡ option_map (entry_of method) (code_of codes serial)
   entry_current_where method serial id None e h same = let no : Some id ≡ None = h in cc
   entry_current_where method serial id (Some c) e h same =
@@ -290,7 +290,7 @@ module _ (codes : List Code) (slots next : ℕ) (records : List Code) (slot_of :
   pub entry_freed : (method serial : ℕ) → unfreed codes serial ≡ None → is_some (code_of codes serial) ≡ true → Some entry.WrongMethod ≡ option_map (entry_of method) (code_of codes serial)
   entry_freed method serial f given = entry_freed_where method serial (code_of codes serial) refl f given
 
-  -- what every table keeps
+  -- every table meets `IsTable`
   one_in_use_where : (code : Code) (o : Option Code) → in_use_for codes code.method ≡ o → Some (id_of code) ≡ option_map id_of o → code_of codes code.serial ≡ Some code → o ≡ Some code
   one_in_use_where code None e h there = let no : Some (id_of code) ≡ None = h in cc
   one_in_use_where code (Some c) e h there =
@@ -392,7 +392,7 @@ module _ (codes : List Code) (slots next : ℕ) (records : List Code) (slot_of :
         → Puts slot_of slot_of' serial (Some slot) → IsKept codes' slots (serial + 1) records' slot_of' current' (slot + 1)
     installed_at serial codes' records' slot_of' current' below_last s c r u noted = rw (c, r, u) (rw s (installed slot_of' below_last (rw (← s) noted)))
 
-  -- a slot that was noted and forgotten, for want of memory
+  -- an indexed slot that was removed again, since memory was refused
   pub forgotten : (slot_of' slot_of'' : ℕ → Option ℕ) (records' : List Code) (serial slot : ℕ) → serial ≡ length codes + 1 → records' ≡ records → Puts slot_of slot_of' serial (Some slot) → Puts slot_of' slot_of'' serial None → IsKept codes slots next records' slot_of'' current taken
   forgotten slot_of' slot_of'' records' serial slot e r noted gone =
       rw r (record {
@@ -427,7 +427,7 @@ module _ (codes : List Code) (slots next : ℕ) (records : List Code) (slot_of :
         indexed = λ serial. same serial ∙ kept.indexed serial;
       }
 
-  -- why a method gets no code, by its entry
+  -- why an install is refused, by the fields
   abbrev table : TableView
   table = record { codes = codes; slots = slots; methods = length current }
 
@@ -441,7 +441,7 @@ module _ (codes : List Code) (slots next : ℕ) (records : List Code) (slot_of :
     pub why_not : (slot : ℕ) → least_free records slots ≡ Some slot → next ≤ last_number → install_fault table method ≡ None
     why_not slot f l = no_fault table method within slot (sym free_is ∙ f) (rw (← kept.next_is) l)
 
-  -- a method that gets a code is one
+  -- a method with an accepted install exists
   pub is_method : (method : ℕ) → install_fault table method ≡ None → method < length current
   is_method method h = accepted_within table method h
 

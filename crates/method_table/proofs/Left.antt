@@ -1,4 +1,4 @@
--- A code that comes out of use keeps its slot, and its method has none in use then.
+-- A code that leaves use keeps its slot, and its method then has no code in use.
 use Rattle.std.proofs.Common.{◌≡◌, ℕ, suc, ◌+◌, ◌∙◌, sym, Bool, true, false, not, ◌&&◌, List, [], ◌∷◌, length, Option, Some, None, refl, ap, subst, arith}
 use Rattle.std.specs.Prelude.{slice_get, option_map, ◌==◌}
 use Rattle.std.proofs.lemmas.Bool.{false≢true, eqb-true, eq-eqb, and_parts}
@@ -28,7 +28,7 @@ taken_left (k ∷ codes) s slot all = by (k.serial == s) refl (taken_left codes 
     by true e rest = let t = all 0 k refl (eqb-true k.serial s e) in rw (e, t, rest) refl
     by false e rest = rw (e, rest) refl
 
--- The least free slot is the same, where no code of the serial is freed.
+-- The least free slot stays the same if no code of the serial is freed.
 pub free_left : (codes : List Code) (s slots : ℕ) → ((j : ℕ) (a : Code) → slice_get codes j ≡ Some a → a.serial ≡ s → takes_slot a.state ≡ true) → free_slot (with_state codes s NotEntrant) slots ≡ free_slot codes slots
 free_left codes s slots all = find_same (λ slot. not (is_taken (with_state codes s NotEntrant) slot)) (λ slot. not (is_taken codes slot)) (below slots) (λ slot. ap not (taken_left codes s slot all))
 
@@ -46,7 +46,7 @@ module _ (t : TableView) (table : IsTable t) (method : ℕ) (old : Code) (used :
   pub state_is : is_in_use old.state ≡ true
   state_is = passes.1
 
-  -- It is the code of its serial.
+  -- The code in use is the code of its serial.
   pub unfreed_here : unfreed t.codes old.serial ≡ Some old
   unfreed_here = unfreed_is 1 old.serial t.codes old numbered (found_is (λ c. (c.method == method) && is_in_use c.state) t.codes old numbered used) (used_takes old.state passes.1)
 
@@ -59,11 +59,11 @@ module _ (t : TableView) (table : IsTable t) (method : ℕ) (old : Code) (used :
   pub long_left : length (with_state t.codes old.serial NotEntrant) ≡ length t.codes
   long_left = state_keeps_length old.serial NotEntrant t.codes
 
-  -- Where an install isn't refused, it isn't then.
+  -- An accepted install is still accepted after the method's code leaves use.
   pub fault_left : install_fault (record t { codes = with_state t.codes old.serial NotEntrant }) method ≡ install_fault t method
   fault_left = rw (slot_left, long_left) refl
 
-  -- The method has no code in use then.
+  -- The method then has no code in use.
   pub none_left : in_use_for (with_state t.codes old.serial NotEntrant) method ≡ None
   none_left = by (in_use_for (with_state t.codes old.serial NotEntrant) method) refl
     where

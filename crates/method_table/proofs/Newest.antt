@@ -18,7 +18,7 @@ slot_stays serial state code = by (code.serial == serial)
     by true = refl
     by false = refl
 
--- The search for the newest code through a push and a change of state.
+-- Searches for the newest code after a push and after a change of state.
 first_none : (o : Option Code) → first_of o None ≡ o
 first_none None = refl
 first_none (Some k) = refl
@@ -49,7 +49,7 @@ newest_with (x ∷ xs) s state slot =
     two true = refl
     two false = refl
 
--- Where it stands.
+-- The index of the newest code.
 pub newest_place : (codes : List Code) (slot : ℕ) (k : Code) → newest_in codes slot ≡ Some k → (i : ℕ) × (slice_get codes i ≡ Some k) × (k.slot ≡ slot)
 newest_place [] slot k h = cc
 newest_place (x ∷ xs) slot k h = by (newest_in xs slot) refl h (newest_place xs slot)
@@ -73,7 +73,7 @@ newest_last (x ∷ xs) slot (suc i) k h e =
     let r = newest_last xs slot i k h e in let low = r.4 in
     (suc r.0, r.1, ap (λ o. first_of o (here x slot)) r.2, r.3, omega arith)
 
--- A new code in a free slot is the newest there, and leaves the others of their slots.
+-- A new code in a free slot is the newest there, and the other codes stay the newest of their slots.
 pub newest_added : (codes : List Code) (new : Code) → AreNewest codes → Puts (code_of codes) (code_of (codes ++ new ∷ [])) new.serial (Some new)
     → ((serial : ℕ) (code : Code) → code_of codes serial ≡ Some code → takes_slot code.state ≡ true → code.slot ≡ new.slot → ⊥) → AreNewest (codes ++ new ∷ [])
 newest_added codes new newest put free serial code is takes = by (cases_eq serial new.serial)
@@ -90,7 +90,7 @@ newest_added codes new newest put free serial code is takes = by (cases_eq seria
         let elsewhere : (new.slot == code.slot) ≡ false = ne_eqb new.slot code.slot (λ e. free serial code was takes (sym e)) in
         newest_push codes new code.slot ∙ (rw elsewhere (newest serial code was takes))
 
--- A code that comes into another state stays the newest of its slot, where it was.
+-- A code that changes its state stays the newest of its slot.
 pub newest_stated : (codes : List Code) (serial : ℕ) (state : CodeState) (old : Code) → AreNewest codes → code_of codes serial ≡ Some old → takes_slot old.state ≡ true → AreNewest (with_state codes serial state)
 newest_stated codes serial state old newest there took other code is takes = by (code_of codes other) refl (sym (code_of-with_state serial other state codes) ∙ is)
   where

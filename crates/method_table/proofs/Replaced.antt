@@ -1,4 +1,4 @@
--- An install over code in use: that code comes out of use, and then the new one comes into use.
+-- An install over code in use: first the old code leaves use, then the new code enters it.
 use Rattle.std.proofs.Common.{◌≡◌, ℕ, zero, suc, ◌+◌, ◌<◌, ◌≤◌, ◌∙◌, sym, Bool, true, false, not, ◌&&◌, List, [], ◌∷◌, ◌++◌, length, set, Option, Some, None, refl, ap, subst, cond, arith, inl, inr, ◌⊎◌, length-set}
 use Rattle.std.specs.Prelude.{slice_get, slice_set, option_map, ◌==◌, IfSome, IfNone}
 use Rattle.std.proofs.lemmas.Bool.{false≢true, eqb-true, cases_eq, and_parts}
@@ -41,7 +41,7 @@ with_record_where records i after new false l ne = set_apart records i new.slot 
 with_record_apart : (records : List Code) (i : ℕ) (after new : Code) → i < length records → (i ≡ new.slot → ⊥) → with_record (set records i after) new ≡ set (with_record records new) i after
 with_record_apart records i after new l ne = rw (length-set records i after) (with_record_where records i after new (new.slot == length records) l ne)
 
--- what comes out of use, by the method's entry
+-- the codes without the method's code in use, by the method's entry
 pub codes_without : (codes codes' : List Code) (entry : Option CodeId) (o : Option Code) (P : Type 0) → entry ≡ option_map id_of o → IfSome entry (λ id. codes' ≡ with_state codes id.serial NotEntrant) → IfNone entry ((codes' ≡ codes) × P) → codes' ≡ without_use codes o
 codes_without codes codes' None None P e some none = none.0
 codes_without codes codes' (Some id) (Some old) P e some none = some ∙ ap (λ (i : CodeId). with_state codes i.serial NotEntrant) (same_Some id (id_of old) e)
@@ -94,7 +94,7 @@ module _ (codes : List Code) (slots next : ℕ) (records : List Code) (slot_of :
         (r ∙ sym (with_record_apart records old.slot after (record { serial = serial; slot = slot; method = method; state = InUse }) within apart))
         (u ∙ sym (set_again current method None (Some (record { slot = slot; serial = serial })))) noted
 
-    -- behind the new record the old one stands as before
+    -- the old record is unchanged by the new one
     still_there : (serial : ℕ) → slice_get (with_record records (record { serial = serial; slot = slot; method = method; state = InUse })) old.slot ≡ Some old
     still_there serial = (put_record records (record { serial = serial; slot = slot; method = method; state = InUse }) (slot_next codes slots next records slot_of current taken kept slot free)).others old.slot apart ∙ there
 
@@ -127,7 +127,7 @@ module _ (codes : List Code) (slots next : ℕ) (records : List Code) (slot_of :
       → current' ≡ set current method (Some (record { slot = slot; serial = serial })) → Puts slot_of slot_of' serial (Some slot) → IsKept codes' slots (serial + 1) records' slot_of' current' (slot + 1)
   replaced_at entry at_method = replaced_where entry (in_use_for codes method) refl (current_is codes slots next records slot_of current taken kept method entry at_method) at_method
 
-  -- the code that is replaced has a slot, also behind the new record
+  -- the replaced code has a slot, also after the new record is stored
   old_where : (entry : Option CodeId) (o : Option Code) → in_use_for codes method ≡ o → entry ≡ option_map id_of o → (serial : ℕ) (records₁ : List Code) → records₁ ≡ with_record records (record { serial = serial; slot = slot; method = method; state = InUse }) → IfSome entry (λ id. id.slot < length records₁)
   old_where None o e same serial records₁ r = tt
   old_where (Some id) (Some old) e same serial records₁ r =

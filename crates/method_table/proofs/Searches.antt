@@ -1,4 +1,4 @@
--- What a search in a list finds and misses.
+-- The results of searches in a list.
 use Rattle.std.proofs.Common.{◌≡◌, ℕ, zero, suc, ◌<◌, ◌∙◌, sym, Bool, true, false, ◌||◌, List, [], ◌∷◌, Option, Some, None, refl, cond, arith, inl, inr}
 use Rattle.std.specs.Prelude.{find, slice_get, is_some}
 use Rattle.std.specs.List.{list_any}
@@ -7,7 +7,7 @@ use Rattle.std.proofs.lemmas.Bool.{cases_lt}
 use Rattle.std.proofs.lemmas.List.Folds.{find-append}
 use Rattle.method_table.specs.Numbers.{below}
 
--- what is found passes the test
+-- a found element passes the test
 found_passes : {X : Type 0} (p : X → Bool) (x : X) (xs : List X) (y : X) (b : Bool) → p x ≡ b → cond b (Some x) (find p xs) ≡ Some y → (find p xs ≡ Some y → p y ≡ true) → p y ≡ true
 found_passes p x xs y true e h more = let same : x ≡ y = cc in rw (← same) e
 found_passes p x xs y false e h more = more h
@@ -16,7 +16,7 @@ pub find_passes : {X : Type 0} (p : X → Bool) (xs : List X) (y : X) → find p
 find_passes p [] y h = let no : None ≡ Some y = h in cc
 find_passes p (x ∷ xs) y h = found_passes p x xs y (p x) refl h (find_passes p xs y)
 
--- what is found stands in the list
+-- a found element is in the list
 pub record IsAt {X : Type 0} (xs : List X) (y : X) : Type 0 where
   pub place : ℕ
   pub is : slice_get xs place ≡ Some y
@@ -29,7 +29,7 @@ pub find_at : {X : Type 0} (p : X → Bool) (xs : List X) (y : X) → find p xs 
 find_at p [] y h = let no : None ≡ Some y = h in cc
 find_at p (x ∷ xs) y h = found_at p x xs y (p x) h (find_at p xs y)
 
--- where nothing is found, no element passes
+-- if nothing is found, no element passes
 missed_at : {X : Type 0} (p : X → Bool) (x : X) (xs : List X) (b : Bool) → p x ≡ b → cond b (Some x) (find p xs) ≡ None → (p x ≡ false) × (find p xs ≡ None)
 missed_at p x xs true e h = let no : Some x ≡ None = h in cc
 missed_at p x xs false e h = (e, h)
@@ -39,7 +39,7 @@ find_misses p [] place y h at_place = let no : None ≡ Some y = at_place in cc
 find_misses p (x ∷ xs) zero y h at_place = let same : x ≡ y = cc in rw (← same) (missed_at p x xs (p x) refl h).0
 find_misses p (x ∷ xs) (suc place) y h at_place = find_misses p xs place y (missed_at p x xs (p x) refl h).1 at_place
 
--- some element passes where one is found
+-- some element passes if one is found
 any_step : {X : Type 0} (p : X → Bool) (x : X) (xs : List X) (b : Bool) → list_any p xs ≡ is_some (find p xs) → (b || list_any p xs) ≡ is_some (cond b (Some x) (find p xs))
 any_step p x xs true h = refl
 any_step p x xs false h = h
@@ -48,7 +48,7 @@ pub any_is_found : {X : Type 0} (p : X → Bool) (xs : List X) → list_any p xs
 any_is_found p [] = refl
 any_is_found p (x ∷ xs) = any_step p x xs (p x) (any_is_found p xs)
 
--- two tests that agree find the same
+-- two tests that agree find the same element
 same_step : {X : Type 0} (x : X) (r s : Option X) (a b : Bool) → a ≡ b → r ≡ s → cond a (Some x) r ≡ cond b (Some x) s
 same_step x r s a b e f = cc
 
@@ -75,7 +75,7 @@ pub below_least : (p : ℕ → Bool) (n k : ℕ) → k < n → p k ≡ true → 
 below_least p zero k l passes least = absurd (omega arith)
 below_least p (suc n) k l passes least = below_least_at p n k l passes least (λ less. below_least p n k less passes least)
 
--- where no number below n passes, none is found, and the other way round
+-- nothing is found below n if and only if no number below n passes
 below_missed_at : (p : ℕ → Bool) (n j : ℕ) (o : Option ℕ) → find p (below n) ≡ o → option_or o (find p (n ∷ [])) ≡ None → (find p (below n) ≡ None) × (p n ≡ false)
 below_missed_at p n j None e h = (e, (missed_at p n [] (p n) refl h).0)
 below_missed_at p n j (Some k) e h = let no : Some k ≡ None = h in cc
@@ -89,7 +89,7 @@ below_missed p (suc n) j h l =
       | inr at_end ↦ (let same : j ≡ n = omega arith in rw same parts.1)
     ]
 
--- the number that is found is below n, passes, and is the least
+-- the number found is below n, passes, and is the least such number
 pub record IsLeastBelow (p : ℕ → Bool) (n k : ℕ) : Type 0 where
   pub within : k < n
   pub passes : p k ≡ true

@@ -1,4 +1,4 @@
--- Serials rise by one: a code stands at its serial, and nowhere else.
+-- Serials rise by one, so a code's index follows from its serial.
 use Rattle.std.proofs.Common.{◌≡◌, ℕ, zero, suc, ◌+◌, ◌<◌, ◌≤◌, ◌∙◌, sym, Bool, true, false, ◌&&◌, List, [], ◌∷◌, ◌++◌, length, Option, Some, None, refl, ap, cond, arith}
 use Rattle.std.specs.Prelude.{find, slice_get, is_some, option_map, ◌==◌}
 use Rattle.std.proofs.lemmas.Bool.{false≢true, eqb-true, eq-eqb, ne_eqb, and_left, cases_eq}
@@ -26,7 +26,7 @@ not_before first serial (c ∷ codes) n l =
     let head : (c.serial == serial) ≡ false = ne_eqb c.serial serial (λ e. omega (arith, n.0)) in
     rw head (not_before (first + 1) serial codes n.1 (omega arith))
 
--- none has one past the last
+-- no code has a serial past the last
 pub not_past : (first serial : ℕ) (codes : List Code) → IsNumberedFrom first codes → first + length codes ≤ serial → code_of codes serial ≡ None
 not_past first serial [] n l = refl
 not_past first serial (c ∷ codes) n l =
@@ -42,7 +42,7 @@ pub was_given : (first serial : ℕ) (codes : List Code) → IsNumberedFrom firs
 was_given first serial [] n l m = absurd (omega arith)
 was_given first serial (c ∷ codes) n l m = given_step c (code_of codes serial) (c.serial == serial) (λ e. was_given (first + 1) serial codes n.1 (grind (arith, nat_tests, n.0)) (omega arith))
 
--- a code that stands in the list is the code of its serial
+-- a listed code is the code of its serial
 pub listed_is : (first place : ℕ) (codes : List Code) (code : Code) → IsNumberedFrom first codes → slice_get codes place ≡ Some code → (code.serial ≡ first + place) × (code_of codes code.serial ≡ Some code)
 listed_is first place [] code n h = let no : None ≡ Some code = h in cc
 listed_is first zero (c ∷ codes) code n h =
@@ -55,15 +55,15 @@ listed_is first (suc place) (c ∷ codes) code n h =
     let head : (c.serial == code.serial) ≡ false = ne_eqb c.serial code.serial (λ e. omega (arith, n.0, later.0)) in
     (omega (arith, later.0), rw head later.1)
 
--- whatever a search finds is the code of its serial
+-- a found code is the code of its serial
 pub found_is : (p : Code → Bool) (codes : List Code) (code : Code) → IsNumberedFrom 1 codes → find p codes ≡ Some code → code_of codes code.serial ≡ Some code
 found_is p codes code n h = let where_it_is = find_at p codes code h in (listed_is 1 where_it_is.place codes code n where_it_is.is).1
 
--- a search that finds nothing misses each code
+-- a search that finds nothing misses every code
 pub missed_is : (p : Code → Bool) (codes : List Code) (serial : ℕ) (code : Code) → find p codes ≡ None → code_of codes serial ≡ Some code → p code ≡ false
 missed_is p codes serial code none h = let where_it_is = find_at (λ c. c.serial == serial) codes code h in find_misses p codes where_it_is.place code none where_it_is.is
 
--- the unfreed code of a serial is its code, where that isn't freed
+-- the code of a serial is its unfreed code unless it is freed
 unfreed_step : (first serial : ℕ) (c : Code) (codes : List Code) (code : Code) (b t : Bool) → (c.serial == serial) ≡ b → takes_slot c.state ≡ t → IsNumberedFrom first (c ∷ codes) → cond b (Some c) (code_of codes serial) ≡ Some code → takes_slot code.state ≡ true → (code_of codes serial ≡ Some code → unfreed codes serial ≡ Some code) → cond (b && t) (Some c) (unfreed codes serial) ≡ Some code
 unfreed_step first serial c codes code true true e f n h takes more = h
 unfreed_step first serial c codes code true false e f n h takes more = let same : c ≡ code = cc in absurd (false≢true (sym f ∙ rw same takes))
@@ -73,7 +73,7 @@ pub unfreed_is : (first serial : ℕ) (codes : List Code) (code : Code) → IsNu
 unfreed_is first serial [] code n h takes = let no : None ≡ Some code = h in cc
 unfreed_is first serial (c ∷ codes) code n h takes = unfreed_step first serial c codes code (c.serial == serial) (takes_slot c.state) refl refl n h takes (λ k. unfreed_is (first + 1) serial codes code n.1 k takes)
 
--- an unfreed code is the code of its serial, and isn't freed
+-- an unfreed code is the code of its serial and isn't freed
 pub is_unfreed : (serial : ℕ) (codes : List Code) (code : Code) → IsNumberedFrom 1 codes → unfreed codes serial ≡ Some code → (code_of codes serial ≡ Some code) × (takes_slot code.state ≡ true) × (code.serial ≡ serial)
 is_unfreed serial codes code n h =
     let passes = Rattle.std.proofs.lemmas.Bool.and_parts (code.serial == serial) (takes_slot code.state) (find_passes (λ c. (c.serial == serial) && takes_slot c.state) codes code h) in

@@ -1,4 +1,5 @@
--- One code more, or one changed, with the record of its slot and of its method: the records still stand for the codes.
+-- The records still represent the codes after one code is added or changed, with the record of its slot and of its
+-- method.
 use Rattle.std.proofs.Common.{◌≡◌, ℕ, ◌∙◌, sym, true, false, Option, Some, None, ap, inl, inr, ◌⊎◌}
 use Rattle.std.proofs.lemmas.Bool.{false≢true, cases_eq}
 use Rattle.std.proofs.lemmas.Option.{same_Some}
@@ -7,7 +8,7 @@ use Rattle.method_table.specs.declared.Code.{Code}
 use Rattle.method_table.specs.Codes.{takes_slot, is_in_use, id_of}
 use Rattle.method_table.specs.Kept.{Puts, IsTied, IsCurrent, IsInUse}
 
--- what stands at the place, or what stood elsewhere
+-- the value is the new one at the place, or an old one elsewhere
 put_cases : {A : Type 0} (before after : ℕ → Option A) (place : ℕ) (x y : A) (other : ℕ) → Puts before after place (Some x) → after other ≡ Some y
     → ((other ≡ place) × (y ≡ x)) ⊎ ((other ≡ place → ⊥) × (before other ≡ Some y))
 put_cases {A = A} before after place x y other put h = by (cases_eq other place)
@@ -51,7 +52,7 @@ module _ (code_at code_at' record_at record_at' : ℕ → Option Code) (new : Co
   pub tied_put : IsTied code_at' record_at'
   tied_put = record { serials = put_serials; listed = put_listed; recorded = put_recorded }
 
--- a code put elsewhere leaves the code in use as it is
+-- a code with another serial leaves the code in use unchanged
 in_use_stays : (code_at code_at' : ℕ → Option Code) (new : Code) (method : ℕ) (id : CodeId) → Puts code_at code_at' new.serial (Some new) → (was : IsInUse code_at method id) → (was.code.serial ≡ new.serial → ⊥) → IsInUse code_at' method id
 in_use_stays code_at code_at' new method id codes was other =
     record { code = was.code; listed = codes.others was.code.serial other ∙ was.listed; id_is = was.id_is; method_is = was.method_is; in_use = was.in_use }
@@ -82,7 +83,7 @@ module _ (code_at code_at' : ℕ → Option Code) (current_at current_at' : ℕ 
   pub current_added : IsCurrent code_at' current_at'
   current_added = record { entered = added_entered; current = added_current }
 
--- a code in use that is so no more
+-- a code leaves use
 module _ (code_at code_at' record_at : ℕ → Option Code) (current_at current_at' : ℕ → Option (Option CodeId)) (old new : Code) (is : IsCurrent code_at current_at) (tied : IsTied code_at record_at)
     (codes : Puts code_at code_at' new.serial (Some new)) (was_there : code_at new.serial ≡ Some old) (was_used : is_in_use old.state ≡ true) (unused : is_in_use new.state ≡ false)
     (entries : Puts current_at current_at' old.method (Some None)) where
@@ -112,7 +113,7 @@ module _ (code_at code_at' record_at : ℕ → Option Code) (current_at current_
   pub current_dropped : IsCurrent code_at' current_at'
   current_dropped = record { entered = dropped_entered; current = dropped_current }
 
--- a code that was not in use and isn't
+-- a code that wasn't in use changes its state
 module _ (code_at code_at' : ℕ → Option Code) (current_at : ℕ → Option (Option CodeId)) (old new : Code) (is : IsCurrent code_at current_at)
     (codes : Puts code_at code_at' new.serial (Some new)) (was_there : code_at new.serial ≡ Some old) (was_unused : is_in_use old.state ≡ false) (unused : is_in_use new.state ≡ false) where
   moved_entered : (method : ℕ) (id : CodeId) → current_at method ≡ Some (Some id) → IsInUse code_at' method id

@@ -1,4 +1,4 @@
--- All codes that were ever installed, in rising serial, with their states. (nmethod states: in use, not entrant, zombie)
+-- All codes ever installed, in rising serial, with their states. (nmethod states: in use, not entrant, zombie)
 use Rattle.std.specs.Prelude.{ℕ, ◌+◌, Bool, true, false, not, ◌&&◌, ◌==◌, length, List, [], ◌∷◌, ◌++◌, map, find, Option, None, Some, if◌then◌else◌}
 use Rattle.std.specs.List.{list_any}
 use Rattle.frames.specs.declared.CodeId.{CodeId}
@@ -7,17 +7,17 @@ use Rattle.method_table.specs.declared.CodeState.{CodeState}
 use Rattle.method_table.specs.declared.CodeState.TheVariants.{InUse, NotEntrant, Zombie, Freed}
 use Rattle.method_table.specs.Numbers.{below}
 
--- In use: it may be entered. (nmethod)
+-- A thread may enter code in use. (nmethod)
 abbrev pub is_in_use : CodeState → Bool
 is_in_use InUse = true
 is_in_use state = false
 
--- Not entrant: no new activation, old ones may stand. (nmethod)
+-- No thread enters code not entrant, and its old frames may still stand on stacks. (nmethod)
 abbrev pub is_not_entrant : CodeState → Bool
 is_not_entrant NotEntrant = true
 is_not_entrant state = false
 
--- Zombie: no activation stands, and the code may be purged. (nmethod)
+-- No frame of a zombie stands on a stack, so the code may be freed. (nmethod)
 abbrev pub is_zombie : CodeState → Bool
 is_zombie Zombie = true
 is_zombie state = false
@@ -27,15 +27,15 @@ abbrev pub takes_slot : CodeState → Bool
 takes_slot Freed = false
 takes_slot state = true
 
--- The code as frames name it.
+-- A code's name in frames.
 abbrev pub id_of : Code → CodeId
 id_of code = record { slot = code.slot; serial = code.serial }
 
--- The code of a serial, where it was ever given out.
+-- The code of a serial, if the serial was given out.
 abbrev pub code_of : List Code → ℕ → Option Code
 code_of codes serial = find (λ code. code.serial == serial) codes
 
--- The code of a serial that isn't freed.
+-- The unfreed code of a serial.
 abbrev pub unfreed : List Code → ℕ → Option Code
 unfreed codes serial = find (λ code. (code.serial == serial) && takes_slot code.state) codes
 
@@ -47,7 +47,7 @@ in_use_for codes method = find (λ code. (code.method == method) && is_in_use co
 abbrev pub is_taken : List Code → ℕ → Bool
 is_taken codes slot = list_any (λ code. (code.slot == slot) && takes_slot code.state) codes
 
--- The least slot in which no unfreed code stands.
+-- The least slot without an unfreed code.
 abbrev pub free_slot : List Code → ℕ → Option ℕ
 free_slot codes slots = find (λ slot. not (is_taken codes slot)) (below slots)
 
@@ -55,19 +55,19 @@ free_slot codes slots = find (λ slot. not (is_taken codes slot)) (below slots)
 abbrev pub next_serial : List Code → ℕ
 next_serial codes = length codes + 1
 
--- A new code in use for the method joins the codes.
+-- The codes after an install: the new code is in use for the method.
 abbrev pub with_code : List Code → ℕ → ℕ → List Code
 with_code codes method slot = codes ++ record { serial = next_serial codes; slot = slot; method = method; state = InUse } ∷ []
 
--- A code comes into the state if it has the serial.
+-- The code in the state, if it has the serial.
 abbrev pub in_state : ℕ → CodeState → Code → Code
 in_state serial state code = if code.serial == serial then record code { state = state } else code
 
--- The code of the serial comes into the state.
+-- The codes after the code of the serial enters the state.
 abbrev pub with_state : List Code → ℕ → CodeState → List Code
 with_state codes serial state = map (in_state serial state) codes
 
--- The code that was in use, where there was one, is not entrant.
+-- The codes after the code in use, if any, becomes not entrant.
 abbrev pub without_use : List Code → Option Code → List Code
 without_use codes None = codes
 without_use codes (Some old) = with_state codes old.serial NotEntrant

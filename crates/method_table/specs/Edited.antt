@@ -1,4 +1,4 @@
--- What an edit makes of the codes.
+-- The codes after an edit.
 use Rattle.std.specs.Prelude.{List}
 use Rattle.method_table.specs.declared.Code.{Code}
 use Rattle.method_table.specs.declared.history.Edit.{Edit}

@@ -1,4 +1,4 @@
--- What edits of a table make of the codes that were given out: states go forward.
+-- States of codes only go forward.
 use Rattle.std.specs.Prelude.{◌≡◌, ℕ, ◌≤◌, List, [], ◌∷◌, Some, None}
 use Rattle.method_table.specs.declared.Code.{Code}
 use Rattle.method_table.specs.declared.CodeState.{CodeState}
@@ -16,8 +16,8 @@ rank NotEntrant = 1
 rank Zombie = 2
 rank Freed = 3
 
--- A table makes the edit: the call that makes it isn't refused, and an install is into the least free slot. No call brings code back
--- into use.
+-- The table accepts the edit: the call isn't refused, and an install is into the least free slot. No call brings code
+-- back into use.
 abbrev pub IsMade : TableView → Edit → Type 0
 IsMade table (Install method slot) = (install_fault table method ≡ None) × (free_slot table.codes table.slots ≡ Some slot)
 IsMade table (Become serial InUse) = ⊥
@@ -25,7 +25,7 @@ IsMade table (Become serial NotEntrant) = invalidate_fault (unfreed table.codes 
 IsMade table (Become serial Zombie) = retire_fault (unfreed table.codes serial) ≡ None
 IsMade table (Become serial Freed) = free_fault (unfreed table.codes serial) ≡ None
 
--- The table after an edit, and after one edit after another.
+-- The table after one edit, and after a list of edits.
 abbrev pub table_after : TableView → Edit → TableView
 table_after table edit = record table { codes = edited table.codes edit }
 
@@ -33,16 +33,16 @@ abbrev pub table_after_all : TableView → List Edit → TableView
 table_after_all table [] = table
 table_after_all table (edit ∷ edits) = table_after_all (table_after table edit) edits
 
--- Each edit is made by the table after those before it.
+-- The table accepts each edit after the edits before it.
 abbrev pub AreMade : TableView → List Edit → Type 0
 AreMade table [] = Unit {0}
 AreMade table (edit ∷ edits) = IsMade table edit × AreMade (table_after table edit) edits
 
--- Each code that was given out is still the code of its serial, with its slot and its method, and in the same state or a later one.
+-- Each serial keeps its code with slot and method, in the same state or a later one.
 abbrev pub GoForward : List Code → List Code → Type 0
 GoForward before after = (serial : ℕ) (code : Code) → code_of before serial ≡ Some code
     → (state : CodeState) × (code_of after serial ≡ Some (record code { state = state })) × (rank code.state ≤ rank state)
 
--- Whatever calls change a table, states go forward.
+-- Whatever calls change a table, states only go forward.
 abbrev pub StatesGoForward : Type 0
 StatesGoForward = (table : TableView) (edits : List Edit) → IsTable table → AreMade table edits → GoForward table.codes (table_after_all table edits).codes

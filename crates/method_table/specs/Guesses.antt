@@ -1,4 +1,4 @@
--- The slots that are guessed.
+-- The slot cache at the start.
 use Rattle.std.specs.Prelude.{ℕ, List, replicate}
 
 abbrev pub no_guess : List ℕ

@@ -1,7 +1,7 @@
--- Numbers that are given out, and ranges of them.
+-- The greatest number, and ranges of numbers.
 use Rattle.std.specs.Prelude.{ℕ, zero, suc, List, [], ◌∷◌, ◌++◌}
 
--- The last name, serial, operation and moment: 2^40 - 1. (own limit)
+-- The last name, serial, operation and moment: 2^40 - 1. (our own limit)
 abbrev pub last_number : ℕ
 last_number = 1099511627775
 

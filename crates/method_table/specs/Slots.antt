@@ -7,6 +7,6 @@ use Rattle.std.specs.HashMap.{get, HashMap}
 abbrev pub Slots : Type 0
 Slots = HashMap ℕ ℕ (BuildHasherDefault FoldHasher)
 
--- The slot that is noted for a serial.
+-- The indexed slot of a serial.
 abbrev pub slot_in : Slots → ℕ → Option ℕ
 slot_in slots serial = get nat_eq slots serial

@@ -1,4 +1,4 @@
--- How a proof stores a list of codes.
+-- The encoding of a list of codes in ghost state.
 use Rattle.std.specs.Prelude.{◌≡◌, ℕ, List, cond, ◌==◌, refl}
 use Rattle.std.specs.Coded.{Coded, code_by, coded×, coded_ℕ, coded_list}
 use mathlib.Core.Path.{ap}

@@ -1,4 +1,4 @@
--- The method table as contracts see it: all codes that were ever installed, and its sizes.
+-- The method table as contracts see it: all codes ever installed, and its sizes.
 use Rattle.std.specs.Prelude.{◌≡◌, ℕ, ◌<◌, ◌≤◌, nat_lt, nat_le, true, List, Option, None, Some, is_some, slice_get, ◌+◌, ◌==◌, if◌then◌else◌}
 use Rattle.method_table.specs.declared.Code.{Code}
 use Rattle.method_table.specs.declared.table.InstallFault.{InstallFault}
@@ -15,13 +15,13 @@ use Rattle.method_table.specs.Numbers.{last_number}
 use Rattle.method_table.specs.Entries.{newest_in}
 use Rattle.method_table.specs.Codes.{is_in_use, is_not_entrant, is_zombie, id_of, unfreed, in_use_for, free_slot, next_serial}
 
--- All codes in rising serial, how many slots there are, and how many methods.
+-- All codes in rising serial, the number of slots and the number of methods.
 pub record TableView : Type 0 where
   pub codes : List Code
   pub slots : ℕ
   pub methods : ℕ
 
--- The first reason for which a method gets no code, where it isn't memory.
+-- The first reason to refuse an install, apart from memory.
 abbrev pub install_fault : TableView → ℕ → Option InstallFault
 install_fault table method =
     if nat_lt method table.methods then
@@ -30,35 +30,36 @@ install_fault table method =
     else Some TableFull)
     else Some NoSuchMethod
 
--- A want of memory is none of these reasons: it is answered only where none of them holds.
+-- Lack of memory is none of these reasons. It is reported only if none of them holds.
 abbrev pub reason : InstallFault → Option InstallFault
 reason NoMemory = None
 reason fault = Some fault
 
--- Code is invalidated where it is in use.
+-- Only code in use is invalidated.
 abbrev pub invalidate_fault : Option Code → Option InvalidateFault
 invalidate_fault None = Some invalidate.Unknown
 invalidate_fault (Some code) = if is_in_use code.state then None else Some invalidate.NotInUse
 
--- Code is retired where it is not entrant.
+-- Only code not entrant is retired.
 abbrev pub retire_fault : Option Code → Option RetireFault
 retire_fault None = Some retire.Unknown
 retire_fault (Some code) = if is_not_entrant code.state then None else Some retire.NotNotEntrant
 
--- Code is freed where it is a zombie.
+-- Only a zombie is freed.
 abbrev pub free_fault : Option Code → Option FreeFault
 free_fault None = Some free.Unknown
 free_fault (Some code) = if is_zombie code.state then None else Some free.NotZombie
 
--- Where a call of the method by way of the code leads: code in use lets its own method in, all other code sends it away.
+-- The result of a call of the method through the code: code in use admits its own method, and all other code redirects
+-- the call.
 abbrev pub entry_of : ℕ → Code → Entry
 entry_of method code =
     if is_in_use code.state
     then (if code.method == method then entry.Enters (id_of code) else entry.NotOf)
     else entry.WrongMethod
 
--- What is true of every table: serials rise by one from 1 to the last number at most, and unfreed codes have slots of their own,
--- of which they are the newest codes.
+-- Every table meets this: serials rise by one from 1 to the last number at most, and each unfreed code has a slot of
+-- its own, of which it is the newest code.
 pub record IsTable (table : TableView) : Type 0 where
   pub serials : (place : ℕ) (code : Code) → slice_get table.codes place ≡ Some code → code.serial ≡ place + 1
   pub in_numbers : (place : ℕ) (code : Code) → slice_get table.codes place ≡ Some code → code.serial ≤ last_number

@@ -1,4 +1,4 @@
-//! What the faults of the table's calls say of themselves.
+//! The texts of the table's faults.
 use crate::table::{FreeFault, InstallFault, InvalidateFault, RetireFault};
 use std::error::Error;
 use std::fmt;

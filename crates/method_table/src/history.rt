@@ -1,4 +1,4 @@
-// All codes that were ever installed. They exist only in proofs: a freed code takes no memory.
+// All codes ever installed. They exist only in proofs: a freed code needs no memory.
 ghost use Rattle.std.specs.Prelude.{◌≡◌, [], List};
 ghost use Rattle.std.specs.Coded.{coded_list};
 ghost use base.Fml.{ftrue};
@@ -17,7 +17,7 @@ impl Model for History {
     ghost also_owns = { λ _. ftrue };
 }
 
-// What the table does with its codes.
+// A change of the table's codes.
 #[derive(Clone, Copy, Drop)]
 pub(crate) enum Edit {
     Install { method: u32, slot: u32 },

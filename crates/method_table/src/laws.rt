@@ -1,8 +1,8 @@
 // Laws of a table's edits.
 ghost use Rattle.method_table.specs.Forward.{StatesGoForward};
 
-/// Whatever calls change a table, each code that was given out keeps its serial, its slot and its method, and its state goes
-/// forward: from in use by not entrant and zombie to freed, never back.
+/// A law: whatever calls change a table, each installed code keeps its serial, slot and method, and its state only goes
+/// forward: in use, not entrant, zombie, freed.
 pub fn states_go_forward()
     ensures { StatesGoForward }
 {}

@@ -1,4 +1,4 @@
-//! The codes that were ever installed, with their slots and states.
+//! All codes ever installed, with their slots and states.
 //! `system` and `desk` keep their codes in it.
 //! Read `src/table.rt` first, then `specs/Codes.antt` and `specs/Edited.antt`.
 #![tactic(auto)]
@@ -13,7 +13,7 @@ mod slot_cache;
 mod slots;
 pub mod table;
 
-/// Whether a code may be entered, and whether it may still stand on a stack.
+/// Whether threads may enter a code, and whether frames of it may still stand on stacks.
 #[derive(Clone, Copy, Debug, PartialEq, Eq, Drop)]
 pub enum CodeState {
     InUse,
@@ -60,7 +60,7 @@ impl CodeState {
     }
 }
 
-/// A code: its serial, the slot in which it stands, the method that it was made of, and its state.
+/// A code: its serial, the slot in which it stands, its method and its state.
 #[derive(Clone, Copy, Debug, PartialEq, Eq, Drop)]
 pub struct Code {
     pub serial: u64,

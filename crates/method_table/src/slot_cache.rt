@@ -1,4 +1,5 @@
-// For each serial, by its last digits, the slot into which a code of such a serial was put last: mostly that of the code of the serial itself.
+// A direct-mapped cache of slots: for the low digits of a serial, the slot of the last code installed with such a
+// serial. Mostly that code has this very serial.
 ghost use Rattle.std.specs.Prelude.{◌≡◌, ◌%◌, Some, IfOk, slice_get, slice_set};
 ghost use Rattle.method_table.specs.Guesses.{no_guess};
 
@@ -37,7 +38,7 @@ impl SlotCache {
         self.slots[serial as usize % GUESSES] = slot;
     }
 
-    /// A slot, which the table may not have.
+    /// A guessed slot, which may be another code's or none of the table's.
     pub(crate) fn slot_of(&self, serial: u64) -> u32
         ensures { slice_get self.now (serial % 1024) ≡ Some result }
     {

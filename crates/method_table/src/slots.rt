@@ -1,4 +1,4 @@
-// The slots of unfreed codes by serial, so that a code is found without a search.
+// The slots of unfreed codes by serial, so that no search is needed.
 ghost use Rattle.std.specs.Prelude.{◌≡◌, OnOk, OnErr, Some, None, ℕ};
 ghost use Rattle.method_table.specs.Slots.{slot_in};
 ghost use Rattle.method_table.specs.Kept.{Puts};

@@ -1,4 +1,4 @@
-// The table: a record for each slot, and the code in use for each method.
+// The method table: a record for each slot, and the code in use for each method.
 ghost use Rattle.std.specs.Prelude.{◌≡◌, ℕ, ◌+◌, ◌<◌, ◌≤◌, List, [], ◌∷◌, length, true, false, not, Some, None, Option, option_map, slice_get, slice_set, IfOk, OnOk, OnErr, IfErr, IfSome, IfNone, find, ◌==◌, ◌&&◌};
 ghost use Rattle.method_table.specs.Codes.{takes_slot, id_of, code_of, unfreed, in_use_for, free_slot, next_serial, with_code, with_state, without_use};
 ghost use Rattle.method_table.specs.Kept.{holds, least_free, with_record};
@@ -16,7 +16,7 @@ use std::alloc::{AllocError, Global};
 use std::collections::HashMap;
 use std::marker::Model;
 
-/// Why a method gets no code, in the order of the tests.
+/// Why an install is refused: the first cause in this order.
 #[derive(Clone, Copy, Debug, PartialEq, Eq, Drop)]
 pub enum InstallFault {
     NoSuchMethod,
@@ -25,35 +25,35 @@ pub enum InstallFault {
     NoMemory,
 }
 
-/// What an install came to: the new code, and the one that was in use for the method until then, which is not entrant from now on.
+/// The result of an install: the new code, and the code that it replaced, which is not entrant from then on.
 #[derive(Clone, Copy, Debug, PartialEq, Eq, Drop)]
 pub struct Installed {
     pub code: CodeId,
     pub replaced: Option<CodeId>,
 }
 
-/// Why a code is not invalidated, in the order of the tests.
+/// Why an invalidation is refused: the first cause in this order.
 #[derive(Clone, Copy, Debug, PartialEq, Eq, Drop)]
 pub enum InvalidateFault {
     Unknown,
     NotInUse,
 }
 
-/// Why a code is not retired, in the order of the tests.
+/// Why a code doesn't become a zombie: the first cause in this order.
 #[derive(Clone, Copy, Debug, PartialEq, Eq, Drop)]
 pub enum RetireFault {
     Unknown,
     NotNotEntrant,
 }
 
-/// Why a code is not freed, in the order of the tests.
+/// Why a code isn't freed: the first cause in this order.
 #[derive(Clone, Copy, Debug, PartialEq, Eq, Drop)]
 pub enum FreeFault {
     Unknown,
     NotZombie,
 }
 
-/// Where a call of a method by way of a code leads.
+/// The result of a call of a method through a code.
 #[derive(Clone, Copy, Debug, PartialEq, Eq, Drop)]
 pub enum Entry {
     Enters(CodeId),
@@ -61,7 +61,7 @@ pub enum Entry {
     WrongMethod,
 }
 
-/// All codes that were ever installed, at most one in use for each method.
+/// All codes ever installed, at most one in use for each method.
 #[derive(Drop)]
 pub struct MethodTable {
     slots: u32,
@@ -92,7 +92,7 @@ impl Model for MethodTable {
         t.current.items t.taken };
 }
 
-// The least slot without an unfreed code, where no slot below is free.
+// The least slot without an unfreed code. All slots below `taken` have one.
 fn least_free(records: &[Code], slots: u32, taken: usize) -> Option<u32>
     requires few { length records.now ≤ slots }
     requires full { (slot : ℕ) → slot < taken → holds (slice_get records.now slot) ≡ true }
@@ -110,7 +110,7 @@ fn least_free(records: &[Code], slots: u32, taken: usize) -> Option<u32>
     }
 }
 
-// Puts a record into its slot, or behind the last one.
+// Stores a record in its slot, or at the end.
 fn put(records: &mut Vec<Code>, code: Code) -> Result<(), AllocError>
     requires { code.slot ≤ length records.old.items }
     ensures ok { OnOk result (records.new.items ≡ with_record records.old.items code) }
@@ -124,7 +124,6 @@ fn put(records: &mut Vec<Code>, code: Code) -> Result<(), AllocError>
     Ok(())
 }
 
-// The code in a slot comes into a state.
 fn set_state(records: &mut Vec<Code>, slot: u32, state: CodeState)
     requires { slot < length records.old.items }
     ensures { (code : Code) → slice_get records.old.items slot ≡ Some code
@@ -133,7 +132,7 @@ fn set_state(records: &mut Vec<Code>, slot: u32, state: CodeState)
     records[slot as usize].state = state;
 }
 
-// The code that was in use, where there was one, is not entrant.
+// Makes the replaced code, if any, not entrant.
 fn replace(records: &mut Vec<Code>, history: &mut History, old: Option<CodeId>)
     requires { IfSome old (λ id. id.slot < length records.old.items) }
     ensures codes { IfSome old
@@ -155,7 +154,10 @@ fn replace(records: &mut Vec<Code>, history: &mut History, old: Option<CodeId>)
 }
 
 impl MethodTable {
-    /// An empty table, with as many slots and methods as are given.
+    /// Makes an empty table with this many slots and methods.
+    ///
+    /// # Errors
+    /// Memory is refused.
     pub fn new(alloc: Global, slots: u32, methods: u32) -> Result<MethodTable, AllocError>
         ensures { IfOk result
             (λ table. table ≡ record { codes = []; slots = slots; methods = methods }) }
@@ -172,14 +174,14 @@ impl MethodTable {
         })
     }
 
-    /// Why the method gets no code, but for want of memory.
+    /// Returns why an install for the method would be refused, apart from `NoMemory`.
     pub fn refusal(&self, method: u64) -> Option<InstallFault>
         ensures { result ≡ install_fault self.now method }
     {
         self.slot_for(method).err()
     }
 
-    // The slot of a new code of the method.
+    // The slot of the method's next code.
     fn slot_for(&self, method: u64) -> Result<u32, InstallFault>
         ensures slot { IfOk result (λ slot. free_slot self.now.codes self.now.slots ≡ Some slot) }
         ensures accepted { OnOk result (install_fault self.now method ≡ None) }
@@ -197,8 +199,11 @@ impl MethodTable {
         Ok(slot)
     }
 
-    /// A new code for the method, in use: it has the next serial and the least free slot. The code that was in use for the method is not
-    /// entrant from now on.
+    /// Installs a new code for the method, with the next serial and the least free slot. The method's former code in
+    /// use becomes not entrant.
+    ///
+    /// # Errors
+    /// The first cause in the order of `InstallFault`; the table is unchanged.
     pub fn install(&mut self, method: u64) -> Result<Installed, InstallFault>
         ensures slot { IfOk result
             (λ r. free_slot self.old.codes self.old.slots ≡ Some r.code.slot) }
@@ -252,7 +257,10 @@ impl MethodTable {
         Ok(Installed { code: id, replaced })
     }
 
-    /// No new activation of the code from now on: it is not entrant.
+    /// Makes a code in use not entrant: no thread may enter it from then on.
+    ///
+    /// # Errors
+    /// The first cause in the order of `InvalidateFault`; the table is unchanged.
     pub fn invalidate(&mut self, serial: u64) -> Result<(), InvalidateFault>
         ensures codes { OnOk result (self.new
             ≡ record self.old { codes = with_state self.old.codes serial NotEntrant }) }
@@ -277,7 +285,10 @@ impl MethodTable {
         Ok(())
     }
 
-    /// No activation of the code is left: it is a zombie.
+    /// Makes a code not entrant a zombie. The caller must know that no frame of the code is left.
+    ///
+    /// # Errors
+    /// The first cause in the order of `RetireFault`; the table is unchanged.
     pub fn retire(&mut self, serial: u64) -> Result<(), RetireFault>
         ensures codes { OnOk result (self.new
             ≡ record self.old { codes = with_state self.old.codes serial Zombie }) }
@@ -301,7 +312,10 @@ impl MethodTable {
         Ok(())
     }
 
-    /// The code is gone, and its slot is free.
+    /// Frees a zombie and its slot.
+    ///
+    /// # Errors
+    /// The first cause in the order of `FreeFault`; the table is unchanged.
     pub fn free(&mut self, serial: u64) -> Result<(), FreeFault>
         ensures codes { OnOk result (self.new
             ≡ record self.old { codes = with_state self.old.codes serial Freed }) }
@@ -327,7 +341,7 @@ impl MethodTable {
         Ok(())
     }
 
-    /// The state of the code, None where the serial was never given out.
+    /// Returns the code's state, or `None` if the serial was never given out.
     pub fn state(&self, serial: u64) -> Option<CodeState>
         ensures { result ≡ option_map (λ code. code.state) (code_of self.now.codes serial) }
     {
@@ -344,7 +358,7 @@ impl MethodTable {
         Some(code.state)
     }
 
-    /// The code in use for the method.
+    /// Returns the method's code in use.
     pub fn current(&self, method: u64) -> Option<CodeId>
         ensures sound { IsTable self.now }
         ensures value { result ≡ option_map id_of (in_use_for self.now.codes method) }
@@ -356,7 +370,7 @@ impl MethodTable {
         }
     }
 
-    /// The code of the serial, None where the serial was never given out or was freed.
+    /// Returns the code of the serial, or `None` if the serial was never given out or the code is freed.
     pub fn find(&self, serial: u64) -> Option<Code>
         ensures sound { IsTable self.now }
         ensures value { result ≡ unfreed self.now.codes serial }
@@ -373,7 +387,7 @@ impl MethodTable {
         self.noted(serial)
     }
 
-    // The code of the serial, by the index. It is a call, since mostly the guess is right.
+    // Looks the serial up in the index. This function isn't inlined, since mostly the guess is right.
     #[inline(never)]
     fn noted(&self, serial: u64) -> Option<Code>
         ensures sound { IsTable self.now }
@@ -385,7 +399,7 @@ impl MethodTable {
         }
     }
 
-    /// Where a call of the method by way of the code leads, None where the serial was never given out.
+    /// Returns the result of a call of the method through the code, or `None` if the serial was never given out.
     pub fn entry(&self, method: u64, serial: u64) -> Option<Entry>
         ensures { result ≡ option_map (entry_of method) (code_of self.now.codes serial) }
     {
@@ -410,7 +424,7 @@ impl MethodTable {
         Some(entry_of(method, code))
     }
 
-    /// How many slots there are.
+    /// Returns the number of slots.
     pub fn slots(&self) -> u32
         ensures value { result ≡ self.now.slots }
         ensures sound { IsTable self.now }
@@ -419,7 +433,7 @@ impl MethodTable {
         self.slots
     }
 
-    /// How many methods there are.
+    /// Returns the number of methods.
     pub fn methods(&self) -> usize
         ensures { result ≡ self.now.methods }
     {

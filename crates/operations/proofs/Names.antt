@@ -1,4 +1,4 @@
--- Lists of names that rise, and a name at a place.
+-- Rising lists of names, and a name at an index.
 use Rattle.std.proofs.Common.{◌≡◌, ℕ, ◌<◌, ◌≤◌, true, false, List, [], ◌∷◌, length, get_or, refl, arith}
 use Rattle.std.specs.Prelude.{◌==◌, nat_lt}
 use Rattle.std.proofs.lemmas.Bool.{and_parts, ltb-true, ne_eqb}
@@ -8,7 +8,7 @@ use Rattle.operations.specs.Names.{among, is_distinct, is_rising, is_below_first
 pub listed_at : (name : ℕ) (names : List ℕ) (i d : ℕ) → i < length names → (get_or names i d == name) ≡ true → among name names ≡ true
 listed_at name names i d below is = list_any_at (λ other. other == name) names i d below is
 
--- A number up to the head of a rising list isn't in its tail.
+-- A number that isn't above the head of a rising list isn't in the tail.
 not_above : (k n : ℕ) (ns : List ℕ) → k ≤ n → is_rising (n ∷ ns) ≡ true → among k ns ≡ false
 not_above k n [] low rising = refl
 not_above k n (m ∷ ms) low rising =

@@ -1,11 +1,11 @@
--- What an ask says of a stack.
+-- Replies of stacks to asks.
 use Rattle.std.specs.Prelude.{ℕ, length, List}
 use Rattle.frames.specs.declared.Frame.{Frame}
 use Rattle.frames.specs.Stack.{serial_count, top_serial_of}
 use Rattle.operations.specs.declared.Ask.{Ask}
 use Rattle.operations.specs.declared.Ask.TheVariants.{Depth, CountOf, Top}
 
--- Its length, the frames of a code, or the serial of the top frame's code.
+-- The depth of the stack, the number of frames of a code, or the serial of the top frame's code.
 abbrev pub reply : Ask → List Frame → ℕ
 reply Depth stack = length stack
 reply (CountOf serial) stack = serial_count serial stack

@@ -1,8 +1,8 @@
--- What contracts see of what a job gave. (JEP 312: a callback is executed for each chosen thread)
+-- The result of a job as contracts see it. (JEP 312: a callback is executed for each chosen thread)
 use Rattle.std.specs.Prelude.{ℕ}
 use Rattle.operations.specs.declared.Ask.{Ask}
 
--- The number of the operation, the name of the thread, what was asked, and the reply.
+-- The operation's number, the target's name, the ask and the reply.
 pub record DoneView : Type 0 where
   pub op : ℕ
   pub target : ℕ

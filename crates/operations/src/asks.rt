@@ -1,4 +1,4 @@
-// What a stack answers.
+// Replies to asks.
 ghost use Rattle.std.specs.Prelude.{◌≡◌};
 ghost use Rattle.operations.specs.Asks.{reply};
 
@@ -6,7 +6,7 @@ use crate::Ask;
 use frames::image::Image;
 
 impl Ask {
-    /// What the ask says of the frames as they stand, published or not. Takes no memory.
+    /// Returns the ask's reply for the stack, with published and unpublished frames. Doesn't allocate.
     pub fn reply_on(self, image: &Image) -> u64
         ensures { result ≡ reply self image.now.frames }
     {

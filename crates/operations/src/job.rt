@@ -28,8 +28,8 @@ pub struct Job {
 }
 
 impl Job {
-    /// A job that has no number yet. The callback may be called on any settled image, and answers by the ask.
-    /// Takes no memory.
+    /// Makes a job without a number. The callback accepts any settled image and returns the ask's reply. Doesn't
+    /// allocate.
     pub fn new(target: u64, ask: Ask, call: Call) -> Job
         requires callable { (i : _) → IsSettled i.now → Call.pre call i }
         requires answers { (i : _) (r : _) → IsSettled i.now → Call.post call i r
@@ -50,7 +50,7 @@ impl Job {
         }
     }
 
-    /// The job with the number of its operation.
+    /// Returns the job with the number of its operation.
     pub fn numbered(self, op: u64) -> Job
         ensures number { ⟦<Job as HandshakeOp>⟧.number result ≡ op }
         ensures whom { ⟦<Job as HandshakeOp>⟧.whom result ≡ ⟦<Job as HandshakeOp>⟧.whom self }
@@ -64,14 +64,14 @@ impl Job {
         job
     }
 
-    /// The number of its operation, 0 before it has one.
+    /// Returns the number of the job's operation, or 0 before the job has one.
     pub fn op(&self) -> u64
         ensures { result ≡ ⟦<Job as HandshakeOp>⟧.number self.now }
     {
         self.op
     }
 
-    /// The name of the thread that it is for.
+    /// Returns the name of the target.
     pub fn target(&self) -> u64
         ensures { result ≡ ⟦<Job as HandshakeOp>⟧.whom self.now }
     {

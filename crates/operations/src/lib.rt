@@ -1,5 +1,5 @@
-//! What is asked of the threads: requests that wait in a queue, and the jobs that answer them.
-//! The core and the running layer use it: `system`, `bodies`, `desk` and all above them.
+//! Requests to threads, the queue in which requests wait, and the jobs that answer them.
+//! `system`, `bodies`, `desk` and all crates above them use this crate.
 //! Read `src/requests.rt` first, then `src/job.rt` and `specs/Asks.antt`.
 #![tactic(auto)]
 
@@ -12,18 +12,18 @@ pub mod job;
 pub mod queue;
 pub mod requests;
 
-/// What a handshake asks of each target.
+/// The question of a handshake to each target.
 #[derive(Clone, Copy, Debug, PartialEq, Eq, Drop)]
 pub enum Ask {
     /// The number of frames.
     Depth,
     /// The number of frames whose code has the serial.
     CountOf(u64),
-    /// The serial of the top frame's code; 0 where it is interpreted or there is none.
+    /// The serial of the top frame's code; 0 if that frame is interpreted or the stack is empty.
     Top,
 }
 
-/// Names of threads, in the order in which they were given.
+/// Names of threads, in the given order.
 #[derive(Debug, Drop)]
 pub struct Targets {
     names: Vec<u64>,
@@ -50,7 +50,7 @@ impl Targets {
         self.names.as_slice()
     }
 
-    /// Gives the list back, without memory.
+    /// Returns the list without allocating.
     pub fn into_vec(self) -> Vec<u64>
         ensures { result.items ≡ self }
     {
@@ -59,14 +59,14 @@ impl Targets {
     }
 }
 
-/// A handshake of the threads that it lists, or a census of all.
+/// A handshake of the listed threads, or a census of all threads.
 #[derive(Debug, Drop)]
 pub enum Request {
     Handshake { targets: Targets, ask: Ask },
     Census,
 }
 
-/// Which of the two a request is.
+/// The kind of a request.
 #[derive(Clone, Copy, Debug, PartialEq, Eq, Drop)]
 pub enum Kind {
     Handshake,

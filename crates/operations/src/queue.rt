@@ -1,4 +1,4 @@
-// Requests that wait, the oldest first.
+// The queue of waiting requests.
 ghost use Rattle.std.specs.Prelude.{◌≡◌, ◌≢◌, ◌≤◌, ◌↔◌, [], ◌∷◌, ◌++◌, length, not, nat_lt, IsTrue, Some, IfErr, IfSome, IfNone, OnOk, OnErr, option_map, slice_get};
 ghost use Rattle.operations.specs.Queues.{MayWait, IsCause};
 
@@ -10,7 +10,7 @@ use std::marker::Model;
 /// How many requests can wait.
 pub const WAITING: usize = 64;
 
-/// A request that waits, with its number and its load.
+/// A waiting request with its number and its load.
 #[derive(Debug, Drop)]
 pub struct Waiting<T> {
     pub number: u64,
@@ -18,10 +18,10 @@ pub struct Waiting<T> {
     pub load: T,
 }
 
-/// Why a request doesn't wait: the first cause in this order.
+/// Why the queue refuses a request: the first cause in this order.
 #[derive(Clone, Copy, Debug, PartialEq, Eq, Drop)]
 pub enum QueueFault {
-    /// 64 wait.
+    /// 64 requests wait.
     QueueFull,
     /// A handshake lists no name.
     NoTargets,
@@ -30,7 +30,7 @@ pub enum QueueFault {
     NoMemory,
 }
 
-/// A request that was refused, with all that was handed in.
+/// A refused request with its load.
 #[derive(Debug, Drop)]
 pub struct Unqueued<T> {
     pub fault: QueueFault,
@@ -38,7 +38,7 @@ pub struct Unqueued<T> {
     pub load: T,
 }
 
-/// Requests in the order in which they were asked: first in, first out.
+/// Waiting requests, first in, first out.
 #[derive(Drop)]
 pub struct Queue<T> {
     waiting: VecDeque<Waiting<T>>,
@@ -56,7 +56,7 @@ impl<T> Model for Queue<T> {
 }
 
 impl<T> Queue<T> {
-    /// Takes no memory.
+    /// Makes an empty queue. Doesn't allocate.
     pub fn new(alloc: Global) -> Queue<T>
         ensures { result ≡ [] }
     {
@@ -65,7 +65,7 @@ impl<T> Queue<T> {
         }
     }
 
-    /// How many requests wait.
+    /// Returns how many requests wait, at most 64.
     pub fn len(&self) -> usize
         ensures value { result ≡ length self.now }
         ensures bound { result ≤ 64 }
@@ -79,21 +79,21 @@ impl<T> Queue<T> {
         self.waiting.is_empty()
     }
 
-    /// Whether no further request can wait.
+    /// Returns whether 64 requests wait.
     pub fn is_full(&self) -> bool
         ensures { result ≡ not (nat_lt (length self.now) 64) }
     {
         self.len() >= WAITING
     }
 
-    /// The oldest request.
+    /// Returns the oldest request.
     pub fn front(&self) -> Option<&Waiting<T>>
         ensures { option_map (λ oldest. oldest.now) result ≡ slice_get self.now 0 }
     {
         self.waiting.front()
     }
 
-    /// Why the request wouldn't wait, but for want of memory.
+    /// Returns why the queue refuses the request, apart from `NoMemory`.
     pub fn refusal(&self, request: &Request) -> Option<QueueFault>
         ensures cause { IfSome result (IsCause (length self.now) request.now) }
         ensures not_memory { result ≢ Some QueueFault.NoMemory }
@@ -110,7 +110,11 @@ impl<T> Queue<T> {
         }
     }
 
-    /// Puts a request last. One that is refused comes back with its load, and the queue stays as it was.
+    /// Adds a request at the end.
+    ///
+    /// # Errors
+    /// The first cause in the order of `QueueFault`. Then the request comes back with its load, and the queue is
+    /// unchanged.
     pub fn push(&mut self, number: u64, request: Request, load: T) -> Result<(), Unqueued<T>>
         ensures ok { OnOk result (self.new ≡ self.old
             ++ record { number = number; request = request; load = load } ∷ []) }
@@ -129,8 +133,10 @@ impl<T> Queue<T> {
         self.push_tested(number, request, load)
     }
 
-    /// Puts a request last that was tested and may wait: it is refused for want of memory alone, and comes back then with its load, and
-    /// the queue stays as it was.
+    /// Adds a request, which `refusal` accepts, at the end.
+    ///
+    /// # Errors
+    /// `NoMemory`. Then the request comes back with its load, and the queue is unchanged.
     #[inline(always)]
     pub fn push_tested(&mut self, number: u64, request: Request, load: T) -> Result<(), Unqueued<T>>
         requires tested { MayWait (length self.old) request }
@@ -155,7 +161,7 @@ impl<T> Queue<T> {
         Ok(())
     }
 
-    /// Takes the oldest request. Takes no memory.
+    /// Removes and returns the oldest request. Doesn't allocate.
     pub fn pop(&mut self) -> Option<Waiting<T>>
         ensures oldest { IfSome result (λ oldest. self.old ≡ oldest ∷ self.new) }
         ensures none { IfNone result ((self.old ≡ []) × (self.new ≡ [])) }

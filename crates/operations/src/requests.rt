@@ -1,4 +1,4 @@
-// Which requests there can be, and whom they are of.
+// Valid requests and their targets.
 ghost use Rattle.std.specs.Prelude.{◌≡◌, ◌&&◌, true, nat_le, length, IfOk, IsOk};
 ghost use Rattle.operations.specs.Names.{among, is_distinct, is_rising, is_below_first};
 ghost use Rattle.operations.specs.Requests.{is_census, kind_of, is_target, has_targets, are_targets};
@@ -19,7 +19,7 @@ impl Request {
         }
     }
 
-    /// Whether a handshake lists the name; a census is of all threads.
+    /// Returns whether the thread is a target: a handshake lists its targets, and a census targets all threads.
     pub fn is_target(&self, name: u64) -> bool
         ensures { result ≡ is_target self.now name }
     {
@@ -29,7 +29,7 @@ impl Request {
         }
     }
 
-    /// Whether there is a target; a census needs none.
+    /// Returns whether a handshake lists a name; true for a census.
     pub fn has_targets(&self) -> bool
         ensures { result ≡ has_targets self.now }
     {
@@ -39,7 +39,7 @@ impl Request {
         }
     }
 
-    /// Whether there are at most 64 targets, and no name stands twice.
+    /// Returns whether a handshake lists at most 64 names, each once; true for a census.
     pub fn are_targets(&self) -> bool
         ensures { result ≡ are_targets self.now }
     {
@@ -49,7 +49,10 @@ impl Request {
         }
     }
 
-    /// A copy with a list of its own. It fails for want of memory alone.
+    /// Copies the request with its list of names.
+    ///
+    /// # Errors
+    /// Memory is refused. A census needs none.
     pub fn copied(&self, alloc: Global) -> Result<Request, AllocError>
         ensures same { IfOk result (λ copy. copy ≡ self.now) }
         ensures succeeds { is_census self.now ≡ true → IsOk result }
@@ -64,15 +67,15 @@ impl Request {
     }
 }
 
-// The length is tested first, so that at most 64 names are compared with one another; where they rise, only neighbours are.
+// The length is tested first to bound the comparisons. In rising names only neighbours are compared.
 fn are_targets_of(names: &[u64]) -> bool
     ensures { result ≡ (nat_le (length names.now) 64 && is_distinct names.now) }
 {
     names.len() <= TARGETS && (is_rising(names) || is_distinct(names))
 }
 
-// The threads that live are mostly listed in the order of their starts: then a name stands as far behind the first as it is greater,
-// and that place is tried before the list is searched.
+// Most handshakes list all live threads in the order of their starts. The index of a name is then its distance from the
+// first name, so this index is tried before a search.
 #[tactic(auto, using(crate::proofs::Names::listed_at))]
 fn is_listed(name: u64, names: &[u64]) -> bool
     ensures { result ≡ among name names.now }
@@ -96,7 +99,6 @@ fn among(name: u64, names: &[u64]) -> bool
     names.iter().any(|other| *other == name)
 }
 
-// Whether each name is greater than the one before.
 fn is_rising(names: &[u64]) -> bool
     ensures { result ≡ is_rising names.now }
 {

@@ -3,14 +3,14 @@ use Rattle.std.proofs.Common.{◌≡◌, ◌⊎◌, ◌∙◌, ℕ, List, [], �
 use Rattle.std.specs.Prelude.{Result, IfOk, IfErr, OnErr, IfSome, IfNone}
 use Rattle.berths.specs.Berths.{Moved}
 use Rattle.desk.specs.Finishing.{FinishSeen}
-use Rattle.desk.specs.Operatings.{OperatingSeen}
 use Rattle.stopped_threads.specs.Holding.{Holding}
 use Rattle.coordinator_core.specs.Called.{ServesCalled, IsLeft}
 use Rattle.coordinator_core.specs.Done.{Releases}
+use Rattle.coordinator_core.specs.declared.drive.Callback.{Callback}
+use Rattle.coordinator_core.specs.declared.drive.Callback.TheVariants as callback
 use Rattle.parties.specs.declared.acts.Fault.{Fault}
 use Rattle.parties.specs.Asked.{Told}
-use Rattle.parties.specs.Coordinated.{IsOperate, SameCounts}
-use Rattle.parties.specs.Driven.{Work, work, Step, Goes, Leads, Called, Held, Closed, Rests, Ends, Advances, ArmsListed, ArmsAsked, MayHaveOperated}
+use Rattle.parties.specs.Driven.{Work, work, Step, Goes, Leads, Called, Held, Closed, Rests, Ends, ArmsListed, ArmsAsked}
 
 pub none : (N : Type 0) (old new : Work) → new ≡ old → Leads N old new
 none N old new e = record { between = []; goes = e }
@@ -25,73 +25,68 @@ joined N a b c ws (last ∷ before) p q = let r = joined N a b last ws before p 
 pub then : (N : Type 0) (a b c : Work) → Leads N a b → Leads N b c → Leads N a c
 then N a b c p q = let r = joined N a b c p.between q.between p.goes q.goes in record { between = r.0; goes = r.1 }
 
--- The same holding and the same call.
-pub same : (N : Type 0) (old new : Holding) (before after : Option (ℕ × ℕ)) → new ≡ old → after ≡ before → Leads N (work old before) (work new after)
-same N old new before after h c = none N (work old before) (work new after) (ap (λ (x : Holding). work x after) h ∙ ap (λ (x : Option (ℕ × ℕ)). work old x) c)
+-- The same holding and the same callback.
+pub same : (N : Type 0) (old new : Holding) (before after : Option Callback) → new ≡ old → after ≡ before → Leads N (work old before) (work new after)
+same N old new before after h c = none N (work old before) (work new after) (ap (λ (x : Holding). work x after) h ∙ ap (λ (x : Option Callback). work old x) c)
 
--- A held thread was let go, or all stays.
-pub let_go : (N : Type 0) (old new : Holding) (place : ℕ) (called : Option (ℕ × ℕ)) → ((receipt : Moved) × Releases old new place receipt) ⊎ (new ≡ old)
+-- A held thread was released, or nothing changed.
+pub let_go : (N : Type 0) (old new : Holding) (place : ℕ) (called : Option Callback) → ((receipt : Moved) × Releases old new place receipt) ⊎ (new ≡ old)
     → Leads N (work old called) (work new called)
-let_go N old new place called (inl did) = one N (work old called) (work new called) (inr (inr (inr (inr (inr (inr (place, did.0, did.1, refl)))))))
+let_go N old new place called (inl did) = one N (work old called) (work new called) (inr (inr (inr (inr (inr (inr (inr (place, did.0, did.1, refl))))))))
 let_go N old new place called (inr e) = same N old new called called e refl
 
--- What was released, by what was found in the room.
+-- A release, by its result at the room.
 pub released : (old new : Holding) (place : ℕ) (said : Option (Option Moved)) (same : Type 0) (gone : Type 0) (none : Type 0) → IfSome said (λ o. IfSome o (Releases old new place))
     → IfSome said (λ o. IfNone o ((new ≡ old) × same)) → IfNone said (none × (new ≡ old) × gone) → ((receipt : Moved) × Releases old new place receipt) ⊎ (new ≡ old)
 released old new place None s g n did stays refused = inr refused.1
 released old new place (Some None) s g n did stays refused = inr stays.0
 released old new place (Some (Some receipt)) s g n did stays refused = inl (receipt, did)
 
--- The thread that was called is called no more: it was served, or wasn't.
-pub dropped : (N : Type 0) (old new : Holding) (number place : ℕ) (before after : Option (ℕ × ℕ)) → before ≡ Some (number, place) → after ≡ None → IsLeft place old new
+-- The callback ends: its thread was served, or wasn't.
+pub dropped : (N : Type 0) (old new : Holding) (number place : ℕ) (before after : Option Callback) → before ≡ Some (callback.Handshake number place) → after ≡ None → IsLeft place old new
     → Leads N (work old before) (work new after)
 dropped N old new number place before after is ends left = one N (work old before) (work new after) (inr (inr (inr (inr (inl (number, place, is, left, ends))))))
 
-pub settled : {E : Type 0} (N : Type 0) (old new : Holding) (number place : ℕ) (before after : Option (ℕ × ℕ)) (said : Result FinishSeen E) → before ≡ Some (number, place) → after ≡ None
+pub settled : {E : Type 0} (N : Type 0) (old new : Holding) (number place : ℕ) (before after : Option Callback) (said : Result FinishSeen E) → before ≡ Some (callback.Handshake number place) → after ≡ None
     → IfOk said (ServesCalled old new place number) → OnErr said (IsLeft place old new) → Leads N (work old before) (work new after)
 settled N old new number place before after (Ok finish) is ends did left = one N (work old before) (work new after) (inr (inr (inr (inl (number, place, finish, is, did, ends)))))
 settled N old new number place before after (Err e) is ends did left = dropped N old new number place before after is ends left
 
--- The census was operated, or wasn't.
-pub operated : {F : Type 0} (old new : Holding) (before after : Option (ℕ × ℕ)) (counted counts : List (ℕ × ℕ)) (said : Result (ℕ × OperatingSeen) F) → after ≡ before
-    → IfOk said (λ r. IsOperate old r.0 r.1.stands counts new) → OnErr said (new ≡ old) → SameCounts said counted counts
-    → MayHaveOperated (work old before) (work new after) counted counts
-operated old new before after counted counts (Ok r) same did stays counts_are = inr (r.0, r.1.stands, did, same)
-operated old new before after counted counts (Err e) same did stays counts_are =
-    inl (ap (λ (x : Holding). work x after) stays ∙ ap (λ (x : Option (ℕ × ℕ)). work old x) same, counts_are)
+-- The host has run its VM operation.
+pub ran : (N : Type 0) (old new : Holding) (number : ℕ) (before after : Option Callback) → before ≡ Some (callback.Safepoint number) → after ≡ None → new ≡ old
+    → Leads N (work old before) (work new after)
+ran N old new number before after is ends stays =
+    let both = ap (λ (x : Holding). work x after) stays ∙ ap (λ (x : Option Callback). work old x) ends in
+    one N (work old before) (work new after) (inr (inr (inr (inr (inr (inl (number, is, both)))))))
 
--- A row of steps, and one more or none: a thread is held, called, let go, or its place is armed.
-pub held_then : (N : Type 0) (a : Work) (old new : Holding) (before after : Option (ℕ × ℕ)) → Leads N a (work old before)
+-- A row of steps, and at most one more: a thread is held, called or released, or its place is armed.
+pub held_then : (N : Type 0) (a : Work) (old new : Holding) (before after : Option Callback) → Leads N a (work old before)
     → Held N (work old before) (work new after) ⊎ ((new ≡ old) × (after ≡ before)) → Leads N a (work new after)
-held_then N a old new before after p (inl held) = then N a (work old before) (work new after) p (one N (work old before) (work new after) (inr (inr (inr (inr (inr (inl held)))))))
+held_then N a old new before after p (inl held) = then N a (work old before) (work new after) p (one N (work old before) (work new after) (inr (inr (inr (inr (inr (inr (inl held))))))))
 held_then N a old new before after p (inr stays) = then N a (work old before) (work new after) p (same N old new before after stays.0 stays.1)
 
-pub called_then : (N : Type 0) (a : Work) (old new : Holding) (before after : Option (ℕ × ℕ)) → Leads N a (work old before) → Called N (work old before) (work new after) → Leads N a (work new after)
+pub called_then : (N : Type 0) (a : Work) (old new : Holding) (before after : Option Callback) → Leads N a (work old before) → Called N (work old before) (work new after) → Leads N a (work new after)
 called_then N a old new before after p called = then N a (work old before) (work new after) p (one N (work old before) (work new after) (inr (inr (inl called))))
 
-pub released_then : (N : Type 0) (a : Work) (old new : Holding) (called : Option (ℕ × ℕ)) → Leads N a (work old called)
+pub released_then : (N : Type 0) (a : Work) (old new : Holding) (called : Option Callback) → Leads N a (work old called)
     → ((place : ℕ) × (receipt : Moved) × Releases old new place receipt) ⊎ (new ≡ old) → Leads N a (work new called)
 released_then N a old new called p (inl did) = then N a (work old called) (work new called) p (let_go N old new did.0 called (inl (did.1, did.2)))
 released_then N a old new called p (inr stays) = then N a (work old called) (work new called) p (same N old new called called stays refl)
 
-pub armed_then : (N : Type 0) (a : Work) (old new : Holding) (before after : Option (ℕ × ℕ)) → Leads N a (work old before) → after ≡ before
+pub armed_then : (N : Type 0) (a : Work) (old new : Holding) (before after : Option Callback) → Leads N a (work old before) → after ≡ before
     → ArmsListed old new ⊎ (ArmsAsked old new ⊎ (new ≡ old)) → Leads N a (work new after)
 armed_then N a old new before after p same_call (inl listed) = then N a (work old before) (work new after) p (one N (work old before) (work new after) (inr (inl (inl listed, same_call))))
 armed_then N a old new before after p same_call (inr (inl asked)) = then N a (work old before) (work new after) p (one N (work old before) (work new after) (inr (inl (inr asked, same_call))))
 armed_then N a old new before after p same_call (inr (inr stays)) = then N a (work old before) (work new after) p (same N old new before after stays same_call)
 
--- The body that was taken last was let go, or all stays.
+-- The body that was taken last was released, or nothing changed.
 pub last_released : (old new : Holding) (said : Option Moved) (P : Type 0) → IfSome said (λ r. Releases old new r.body.seat.place r) → IfNone said ((new ≡ old) × P)
     → ((place : ℕ) × (receipt : Moved) × Releases old new place receipt) ⊎ (new ≡ old)
 last_released old new None P did stays = inr stays.0
 last_released old new (Some receipt) P did stays = inl (receipt.body.seat.place, receipt, did)
 
--- A row of steps, and then the oldest open request is closed, or all stays and the work rests.
-pub closed_then : (N : Type 0) (a : Work) (mid new : Holding) (before after : Option (ℕ × ℕ)) (said : Told) → Leads N a (work mid before)
+-- A row of steps, and then the oldest open request is closed, or nothing changes and the work rests.
+pub closed_then : (N : Type 0) (a : Work) (mid new : Holding) (before after : Option Callback) (said : Told) → Leads N a (work mid before)
     → IfOk said (λ n. Closed (work mid before) n (work new after)) → OnErr said ((new ≡ mid) × (after ≡ before)) → IfErr said (Rests (work new after)) → Ends N a said (work new after)
 closed_then N a mid new before after (Ok n) p closed stays rests = (work mid before, p, closed)
 closed_then N a mid new before after (Err e) p closed stays rests = (then N a (work mid before) (work new after) p (same N mid new before after stays.0 stays.1), rests)
-
--- An advance that rests before a census is operated.
-pub rests_before : (N : Type 0) (a new : Work) (counts : List (ℕ × ℕ)) (e : Fault) → Leads N a new → Rests new e → Advances N a counts (Err e) new counts
-rests_before N a new counts e p rests = (new, new, p, inl (refl, refl), (none N new new refl, rests))

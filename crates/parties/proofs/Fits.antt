@@ -1,4 +1,5 @@
--- Jobs that are made for all names fit them; a request is refused with jobs that fit as with any; and a reclaiming waits as it was asked for.
+-- Jobs that are made for all names fit them; jobs that fit don't change the refusal; and the handshake of reclaiming
+-- waits as asked.
 use Rattle.std.proofs.Common.{◌≡◌, ◌≢◌, ◌<◌, ◌++◌, ◌∙◌, ℕ, Bool, true, List, [], ◌∷◌, length, Option, Some, None, IfSome, IfNone, refl, sym, ap, subst, arith}
 use Rattle.std.proofs.lemmas.List.{append-nil}
 use Rattle.operations.specs.declared.Ask.{Ask}
@@ -13,7 +14,7 @@ use Rattle.desk.specs.declared.faults.ReclaimFault.{ReclaimFault}
 use Rattle.desk.specs.declared.faults.ReclaimFault.TheVariants as reclaim
 use Rattle.parties.specs.Asked.{Waits}
 
--- Once a job is made for each name none is left to be made.
+-- If no name is left, each name has its job.
 pub all_made : {J : Type 0} (whom : J → ℕ) (asks : J → Ask) (names rest : List ℕ) (ask : Ask) (jobs : List J) → length rest < 1
     → ((more : List J) → are_for whom asks rest ask more ≡ true → are_for whom asks names ask (jobs ++ more) ≡ true) → are_for whom asks names ask jobs ≡ true
 all_made whom asks names [] ask jobs below each = subst (λ js. are_for whom asks names ask js ≡ true) (append-nil jobs) (each [] refl)

@@ -1,4 +1,4 @@
--- What becomes of a held body that isn't served.
+-- A held body that isn't served.
 use Rattle.std.proofs.Common.{◌≡◌, ℕ, Result, Err, IfErr, subst}
 use Rattle.frames.specs.ImageView.{ImageView}
 use Rattle.operations.specs.declared.Ask.{Ask}

@@ -1,4 +1,4 @@
--- What an exit comes to that gives its place up and then enters its Exit, and what is told of a code that was weighed.
+-- An exit that gives up its place and then enters its Exit, and the result of a weighing.
 use Rattle.std.proofs.Common.{◌≡◌, ℕ, Ok, Err, inl, inr, refl, sym, subst}
 use Rattle.berths.specs.Berths.{Moved}
 use Rattle.thread_list.specs.Moves.{Running}

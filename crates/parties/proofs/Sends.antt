@@ -1,4 +1,4 @@
--- A party may go to another thread while others share its system: what is shared lies under locks, or is words.
+-- A party may move to another thread while others share its system, since shared parts are words or under locks.
 use denote.RattleType.{RattleType}
 use denote.Param.{param}
 use denote.Param.Send.{IsSend, IsSync, owning_send, sendable}

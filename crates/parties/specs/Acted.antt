@@ -1,4 +1,4 @@
--- What an act of a party comes to.
+-- The results of a party's acts.
 use Rattle.std.specs.Prelude.{◌≡◌, ◌≢◌, ◌⊎◌, ◌++◌, ◌∷◌, [], ℕ, List, true, false, Ok, Err, Option, Some, None}
 use Rattle.thread_state.specs.declared.State.{State}
 use Rattle.thread_state.specs.declared.State.TheVariants.{InJava, InVm, AtPoll, InNative, Blocked, NativeTrans, BlockedTrans, Serving}
@@ -27,9 +27,11 @@ use Rattle.stopped_threads.specs.Holding.{Holding}
 use Rattle.desk.specs.declared.entries.Entry.{Entry}
 use Rattle.desk.specs.Fields.{DeskSeen, at}
 use Rattle.desk.specs.Refusals.{start_refused}
-use Rattle.parties.specs.Asked.{Told, WasEntered, WasStarted, Submits, Installs, Invalidates, Begins, FindsReply, FindsNext, FindsKind, Forgets, names_behind}
+use Rattle.parties.specs.Asked.{Told, WasEntered, WasStarted, Submits, Installs, Invalidates, Begins, FindsReply, FindsNext, FindsKind, FindsPending, Forgets, TargetsSeen, no_targets, targets_behind}
 use Rattle.parties.specs.Pairs.{first_of, or_zero}
 use Rattle.coordinator_core.specs.Work.{IsLegal, DriveSeen, idle}
+use Rattle.coordinator_core.specs.declared.drive.Callback.{Callback}
+use Rattle.coordinator_core.specs.declared.drive.Callback.TheVariants as callback
 use Rattle.parties.specs.Coordinated as coordinated
 use Rattle.parties.specs.Driven.{Advances, work}
 use Rattle.parties.specs.declared.acts.Act.{Act}
@@ -39,7 +41,7 @@ use Rattle.parties.specs.declared.acts.Fault.TheVariants as fault
 use Rattle.parties.specs.declared.party.Role.{Role}
 use Rattle.parties.specs.declared.party.Role.TheVariants as role
 
--- The number of a poll's answer, 0 to go on.
+-- The result of a poll as a number, 0 to continue.
 abbrev pub number_of : Poll → ℕ
 number_of Go = 0
 number_of (Stop n) = n
@@ -53,19 +55,19 @@ IsRole (role.Leaves m) = m.act ≡ moved.Vacated
 IsRole role.Gone = Unit {0}
 IsRole (role.Coordinates c) = Unit {0}
 
--- What contracts see of a party: what it is, the names of the targets of its next request, what the census that it operated last counted, which
--- is serials, each with its frames, a job that came out of the desk and found no room, and how far its work on the open requests is.
+-- A party as contracts see it: its role, the targets of its next request, the counts of its last census as serials with
+-- frames, a job that came out of the desk and had no room, and the state of its work on the open requests.
 pub record PartySeen (N : Type 0) : Type 0 where
   pub role : Role N
-  pub names : List ℕ
+  pub targets : TargetsSeen
   pub counts : List (ℕ × ℕ)
   pub hand : Option Query
   pub drive : DriveSeen
 
 abbrev pub party_as : {N : Type 0} → Role N → PartySeen N
-party_as role = record { role = role; names = []; counts = []; hand = None; drive = idle }
+party_as role = record { role = role; targets = no_targets; counts = []; hand = None; drive = idle }
 
--- How a call ran, as a number: the serial of its code, or 0.
+-- The result of a call as a number: the serial of its code, or 0.
 abbrev pub serial_of : Called → ℕ
 serial_of (Compiled serial) = serial
 serial_of Interpreted = 0
@@ -128,14 +130,14 @@ Unblocks old (Err fault.Illegal) new = (old.state ≢ Blocked) × (new ≡ old)
 Unblocks old (Err fault.Again) new = new ≡ old
 Unblocks old (Err e) new = ⊥
 
--- The next operation to be served, or the thread goes on; or it stays stopped, at a room of a berth.
+-- The thread has an operation to serve, or continues; or it stays stopped at its room.
 abbrev pub Next : (N : Type 0) → Running → Told → Running → Type 0
 Next N old (Ok n) new = StopsNext old new n
 Next N old (Err fault.Illegal) new = ((back : Back) → old.state ≢ AtPoll back) × (new ≡ old)
 Next N old (Err fault.Again) new = (new ≡ old) ⊎ ((before : Berthing N) × (after : Berthing N) × StaysStopped old new before after)
 Next N old (Err e) new = ⊥
 
--- By the receipt what its job answered was entered, and the thread polled, which is told by the number.
+-- By the receipt the job's reply was entered. The thread polled, and the number is the poll's.
 abbrev pub IsEnded : Running → ℕ → FinishSeen → Running → Type 0
 IsEnded old n finish new = (said : Poll) × EndsServing old new said finish × (n ≡ number_of said)
 
@@ -145,12 +147,12 @@ Serves old (Err fault.Illegal) new = ((back : Back) → old.state ≢ Serving ba
 Serves old (Err fault.Again) new = new ≡ old
 Serves old (Err e) new = ⊥
 
--- A thread that was told something where it exits publishes and polls.
+-- A thread that exits with a pending operation publishes and polls.
 abbrev pub PollsAtExit : Running → Running → ℕ → Type 0
 PollsAtExit old new n
     = (is_running old.state ≡ true) × ((said : Poll) × PollsOn old new said × (n ≡ number_of said))
 
--- A thread whose exit is refused, or that was told something and polled.
+-- A thread whose exit is refused, or that polled for a pending operation.
 abbrev pub StaysOn : Running → Told → Running → Type 0
 StaysOn old (Ok n) new = SameThread old new × (n ≢ 0) × PollsAtExit old new n
 StaysOn old (Err fault.Illegal) new = (is_running old.state ≡ false) × (new ≡ old)
@@ -158,28 +160,28 @@ StaysOn old (Err fault.StackNotEmpty) new = (is_running old.state ≡ true) × H
 StaysOn old (Err fault.Again) new = (new ≡ old) ⊎ (SameThread old new × PollsAtExit old new 0)
 StaysOn old (Err e) new = ⊥
 
--- The place of a thread was given up with a publication of its stack, which is empty.
+-- The thread's place was given up, after a publication of its empty stack.
 abbrev pub GivesUp : Running → Moved → Type 0
 GivesUp old m = IsVacated old.place old.name m × IsGivenUp old.body m
 
--- By what it is, when it is a thread.
+-- An act of a thread.
 abbrev pub OfThread : {N : Type 0} → (Running → Told → Running → Type 0) → Role N → Told → Role N → Type 0
 OfThread does (role.Runs old) said (role.Runs new) = SameThread old new × does old said new
 OfThread does (role.Runs old) said new = ⊥
 OfThread does old said new = (said ≡ Err fault.NotThis) × (new ≡ old)
 
--- Where a Start isn't entered, and why.
+-- Why a Start isn't entered.
 abbrev pub StartFails : ℕ → Fault → Type 0
 StartFails places (fault.Start f) = (d : DeskSeen) × IsLegal d × start_refused (at d) places d.book f
 StartFails places fault.Again = Unit {0}
 StartFails places e = ⊥
 
--- A thread that starts: its first body, with an empty stack and published once, came back out of its berth, and it polled on its way into
--- Java.
+-- A thread that starts: its first body, with an empty stack that was published once, came back out of its berth, and
+-- the thread polled on its way into Java.
 abbrev pub Arrives : ℕ → Running → Type 0
 Arrives name r = IsResumed r × PollsIn r.crossed.body r Java × ((seat : SpareView) × IsFirst name seat r.crossed.body)
 
--- What starts is a thread of the name and place that were entered.
+-- The started thread has the name and place that were entered.
 abbrev pub Started : Starting → Told → Running → Type 0
 Started e (Ok n) r = (r.name ≡ e.name) × (r.place ≡ e.place) × (r.methods ≡ e.methods) × (n ≡ e.name) × Arrives e.name r
 Started e (Err f) r = ⊥
@@ -194,7 +196,7 @@ Starts places (role.Starts e) said (role.Starts e') = (said ≡ Err fault.Again)
 Starts places (role.Starts e) said new = ⊥
 Starts places old said new = (said ≡ Err fault.NotThis) × (new ≡ old)
 
--- An exit of a thread: it is gone, or its place is given up and its Exit waits, or it goes on.
+-- An exit of a thread: the thread exited; or its place is given up, without an Exit yet; or it continues.
 abbrev pub Exits : {N : Type 0} → Role N → Told → Role N → Type 0
 Exits (role.Runs old) (Ok n) role.Gone = (n ≡ 0) × ((m : Moved) × GivesUp old m × WasEntered (Entry.Exit m.body.name))
 Exits (role.Runs old) (Ok n) (role.Runs new) = StaysOn old (Ok n) new
@@ -219,7 +221,7 @@ code_of s = 6
 abbrev pub Tells : (Running → ℕ) → Running → Told → Running → Type 0
 Tells what old said new = (said ≡ Ok (what old)) × (new ≡ old)
 
--- By what it is, when it is the coordinator.
+-- An act of the coordinator.
 abbrev pub OfCoordinator : {N : Type 0} → (Holding → Told → Holding → Type 0) → Role N → Told → Role N → Type 0
 OfCoordinator does (role.Coordinates old) said (role.Coordinates new) = does old said new
 OfCoordinator does (role.Coordinates old) said new = ⊥
@@ -231,57 +233,62 @@ Opens old said new = coordinated.Opens said × (new ≡ old)
 abbrev pub Weighs : (N : Type 0) → ℕ → ℕ → Holding → Told → Holding → Type 0
 Weighs N places serial old said new = coordinated.Weighs N places serial said × (new ≡ old)
 
--- What the party notes stays.
+-- All but the role stays the same.
 abbrev pub SameNotes : {N : Type 0} → PartySeen N → PartySeen N → Type 0
-SameNotes old new = (new.names ≡ old.names) × (new.counts ≡ old.counts) × (new.hand ≡ old.hand) × (new.drive ≡ old.drive)
+SameNotes old new = (new.targets ≡ old.targets) × (new.counts ≡ old.counts) × (new.hand ≡ old.hand) × (new.drive ≡ old.drive)
 
--- An act by what the party is.
+-- An act that changes only the role of the party.
 abbrev pub ActsAs : {N : Type 0} → (Role N → Told → Role N → Type 0) → PartySeen N → Told → PartySeen N → Type 0
 ActsAs does old said new = does old.role said new.role × SameNotes old new
 
--- What a party asks of the desk leaves the party as it is.
+-- A party's call at the desk doesn't change the party.
 abbrev pub AsksOf : {N : Type 0} → (Told → Type 0) → PartySeen N → Told → PartySeen N → Type 0
 AsksOf does old said new = does said × (new ≡ old)
 
--- What it asks of the desk with the names that it noted.
-abbrev pub AsksWith : {N : Type 0} → (List ℕ → Told → Type 0) → PartySeen N → Told → PartySeen N → Type 0
-AsksWith does old said new = does old.names said × (new ≡ record old { names = names_behind said old.names })
+-- A party's call at the desk with the noted targets.
+abbrev pub AsksWith : {N : Type 0} → (TargetsSeen → Told → Type 0) → PartySeen N → Told → PartySeen N → Type 0
+AsksWith does old said new = does old.targets said × (new ≡ record old { targets = targets_behind said old.targets })
 
--- The name is noted behind the others, where there is memory for it.
+-- The name is noted after the others, if there is memory for it.
 abbrev pub Notes : {N : Type 0} → ℕ → PartySeen N → Told → PartySeen N → Type 0
-Notes name old (Ok n) new = (n ≡ 0) × (new ≡ record old { names = old.names ++ name ∷ [] })
+Notes name old (Ok n) new = (n ≡ 0) × (new ≡ record old { targets = record old.targets { names = old.targets.names ++ name ∷ [] } })
 Notes name old (Err fault.NoMemory) new = new ≡ old
 Notes name old (Err e) new = ⊥
+
+-- The targets are all threads that are live when the next request is submitted.
+abbrev pub NotesAll : {N : Type 0} → PartySeen N → Told → PartySeen N → Type 0
+NotesAll old said new = (said ≡ Ok 0) × (new ≡ record old { targets = record { names = []; are_all = true } })
 
 abbrev pub Operates : {N : Type 0} → PartySeen N → Told → PartySeen N → Type 0
 Operates old said new
     = OfCoordinator (λ before told after. coordinated.Operates before told new.counts after) old.role said new.role
-    × (new.names ≡ old.names) × (new.hand ≡ old.hand) × (new.drive ≡ old.drive) × coordinated.SameCounts said old.counts new.counts
+    × (new.targets ≡ old.targets) × (new.hand ≡ old.hand) × (new.drive ≡ old.drive) × coordinated.SameCounts said old.counts new.counts
 
--- Telling a name may put the job in hand into its berth.
+-- A Tell may put the job in hand into its berth.
 abbrev pub TellsName : {N : Type 0} → ℕ → PartySeen N → Told → PartySeen N → Type 0
 TellsName name old said new
-    = OfCoordinator (coordinated.Tells name) old.role said new.role × (new.names ≡ old.names) × (new.counts ≡ old.counts) × (new.drive ≡ old.drive)
+    = OfCoordinator (coordinated.Tells name) old.role said new.role × (new.targets ≡ old.targets) × (new.counts ≡ old.counts) × (new.drive ≡ old.drive)
     × coordinated.KeepsHand (λ j. j.op) (λ j. j.target) name said old.hand new.hand
 
--- How many frames the code had in the census that was operated last.
+-- How many frames the code had in the last operated census.
 abbrev pub Counts : {N : Type 0} → ℕ → PartySeen N → Told → PartySeen N → Type 0
 Counts serial old said new = (said ≡ Ok (or_zero (first_of serial old.counts))) × (new ≡ old)
 
--- The work on the open requests is advanced.
+-- Advances the work on the open requests.
 abbrev pub Advancing : {N : Type 0} → PartySeen N → Told → PartySeen N → Type 0
 Advancing {N} old said new
     = OfCoordinator (λ before told after. Advances N (work before old.drive.called) old.counts told (work after new.drive.called) new.counts) old.role said new.role
-    × (new.names ≡ old.names) × (new.hand ≡ old.hand) × (said ≡ Err fault.NotThis → new ≡ old)
+    × (new.targets ≡ old.targets) × (new.hand ≡ old.hand) × (said ≡ Err fault.NotThis → new ≡ old)
 
--- For which operation the held thread of which place is served next; 0 without one.
-abbrev pub operation_of : Option (ℕ × ℕ) → ℕ
+-- The operation of the host's next callback, and the place of its held thread; 0 without one.
+abbrev pub operation_of : Option Callback → ℕ
 operation_of None = 0
-operation_of (Some called) = called.0
+operation_of (Some (callback.Handshake number place)) = number
+operation_of (Some (callback.Safepoint number)) = number
 
-abbrev pub place_of : Option (ℕ × ℕ) → ℕ
-place_of None = 0
-place_of (Some called) = called.1
+abbrev pub place_of : Option Callback → ℕ
+place_of (Some (callback.Handshake number place)) = place
+place_of called = 0
 
 abbrev pub Shows : {N : Type 0} → (DriveSeen → ℕ) → PartySeen N → Told → PartySeen N → Type 0
 Shows what old said new = (said ≡ Ok (what old.drive)) × (new ≡ old)
@@ -305,12 +312,14 @@ Acts places old act.Name said new = ActsAs (OfThread (Tells (λ r. r.name))) old
 Acts places old act.Place said new = ActsAs (OfThread (Tells (λ r. r.place))) old said new
 Acts places old act.State said new = ActsAs (OfThread (Tells (λ r. code_of r.state))) old said new
 Acts places old (act.Target name) said new = Notes name old said new
+Acts places old act.TargetAll said new = NotesAll old said new
 Acts places old (act.Submit ask) said new = AsksWith (Submits ask) old said new
 Acts places old (act.Install method) said new = AsksOf (Installs method) old said new
 Acts places old (act.Invalidate serial) said new = AsksOf (Invalidates serial) old said new
 Acts places old (act.Reply op name) said new = AsksOf (FindsReply op name) old said new
 Acts places old (act.LiveAfter name) said new = AsksOf (FindsNext name) old said new
 Acts places old act.OpenKind said new = AsksOf FindsKind old said new
+Acts places old act.Pending said new = AsksOf FindsPending old said new
 Acts places old act.Forget said new = AsksOf Forgets old said new
 Acts places old act.Open said new = ActsAs (OfCoordinator Opens) old said new
 Acts places old (act.Tell name) said new = TellsName name old said new

@@ -1,5 +1,5 @@
--- What comes of what a party asks of the desk.
-use Rattle.std.specs.Prelude.{◌≡◌, ◌⊎◌, ◌<◌, ◌+◌, ℕ, true, List, [], ◌∷◌, length, Result, Ok, Err, Option, Some, None, option_map}
+-- The results of a party's calls at the desk.
+use Rattle.std.specs.Prelude.{◌≡◌, ◌⊎◌, ◌<◌, ◌≤◌, ◌+◌, ℕ, Bool, true, false, List, [], ◌∷◌, length, Result, Ok, Err, Option, Some, None, option_map, if◌then◌else◌}
 use Rattle.frames.specs.declared.CodeId.{CodeId}
 use Rattle.frames.specs.BoardViews.{went_round}
 use Rattle.method_table.specs.Codes.{unfreed, id_of, in_use_for}
@@ -14,7 +14,7 @@ use Rattle.desk.specs.declared.entries.Entry.{Entry}
 use Rattle.desk.specs.declared.faults.AskFault.TheVariants as ask_fault
 use Rattle.desk.specs.declared.faults.ReclaimFault.TheVariants as reclaim_fault
 use Rattle.desk.specs.Fields.{DeskSeen, Enters, EntersInstall, at}
-use Rattle.desk.specs.Machine.{Stands, is_taken}
+use Rattle.desk.specs.Machine.{State, Stands, is_taken, names_of}
 use Rattle.desk.specs.Replies.{replies_kept}
 use Rattle.desk.specs.Targets.{live_after, open_kind}
 use Rattle.desk.specs.Pending.{least_pending}
@@ -24,11 +24,11 @@ use Rattle.parties.specs.Pairs.{first_of, or_zero}
 use Rattle.parties.specs.declared.acts.Fault.{Fault}
 use Rattle.parties.specs.declared.acts.Fault.TheVariants as fault
 
--- What an act answers: a number, or why it isn't done.
+-- The result of an act: a number, or why the act isn't done.
 abbrev pub Told : Type 0
 Told = Result ℕ Fault
 
--- By the receipt the entry was entered at such a desk, lawfully.
+-- By the receipt the entry was entered, lawfully, at a desk with a legal history.
 abbrev pub IsEntry : Entry → Stands → Type 0
 IsEntry entry receipt = (old : DeskSeen) × (new : DeskSeen) × IsLegal old × Enters old new entry receipt
 
@@ -44,33 +44,53 @@ IsStart name place receipt
 abbrev pub WasStarted : (name place : ℕ) → Type 0
 WasStarted name place = (receipt : Stands) × IsStart name place receipt
 
--- The number of an answer that has a receipt beside it.
+-- The number of a result, without its receipt.
 abbrev pub number_in : {A : Type 0} → Result (ℕ × A) Fault → Told
 number_in (Ok r) = Ok r.0
 number_in (Err e) = Err e
+
+-- The targets of the next request: these names, or all that are live at the desk at which it is submitted.
+pub record TargetsSeen : Type 0 where
+  pub names : List ℕ
+  pub are_all : Bool
+
+abbrev pub no_targets : TargetsSeen
+no_targets = record { names = []; are_all = false }
+
+abbrev pub which_targets : Bool → (names live : List ℕ) → List ℕ
+which_targets true names live = live
+which_targets false names live = names
+
+abbrev pub targets_at : TargetsSeen → State → List ℕ
+targets_at t s = which_targets t.are_all t.names (names_of s.live)
 
 abbrev pub request_for : Option Ask → List ℕ → Request
 request_for (Some ask) names = Handshake names ask
 request_for None names = Census
 
--- A request of the names waits, by its number.
-abbrev pub Submits : Option Ask → List ℕ → Told → Type 0
-Submits ask names (Ok n) = WasEntered (Entry.Ask n (request_for ask names))
-Submits ask names (Err (fault.Ask f)) = (d : DeskSeen) × IsLegal d × ask_refused (at d) (request_for ask names) true d.book f
-Submits ask names (Err fault.Again) = Unit {0}
-Submits ask names (Err fault.NoMemory) = Unit {0}
-Submits ask names (Err e) = ⊥
+-- By the receipt the request of the targets waits, with this number.
+abbrev pub IsAsk : Option Ask → TargetsSeen → ℕ → Stands → Type 0
+IsAsk ask targets n receipt
+    = (old : DeskSeen) × (new : DeskSeen) × IsLegal old × Enters old new (Entry.Ask n (request_for ask (targets_at targets (at old)))) receipt
 
--- The names of the next request behind an answer: as they were where the same request is to be made again or there was no memory, else none.
-abbrev pub names_behind : Told → List ℕ → List ℕ
-names_behind (Ok n) names = []
-names_behind (Err fault.Again) names = names
-names_behind (Err fault.NoMemory) names = names
-names_behind (Err (fault.Ask ask_fault.NoMemory)) names = names
-names_behind (Err (fault.Reclaim (reclaim_fault.Ask ask_fault.NoMemory))) names = names
-names_behind (Err e) names = []
+abbrev pub Submits : Option Ask → TargetsSeen → Told → Type 0
+Submits ask targets (Ok n) = (receipt : Stands) × IsAsk ask targets n receipt
+Submits ask targets (Err (fault.Ask f)) = (d : DeskSeen) × IsLegal d × ask_refused (at d) (request_for ask (targets_at targets (at d))) true d.book f
+Submits ask targets (Err fault.Again) = Unit {0}
+Submits ask targets (Err fault.NoMemory) = Unit {0}
+Submits ask targets (Err e) = ⊥
 
--- By the receipt the code of the serial was installed for the method, in place of the one in use.
+-- The targets of the next request after a result: the same if the call is to be tried again or memory was refused,
+-- otherwise none.
+abbrev pub targets_behind : Told → TargetsSeen → TargetsSeen
+targets_behind (Ok n) targets = no_targets
+targets_behind (Err fault.Again) targets = targets
+targets_behind (Err fault.NoMemory) targets = targets
+targets_behind (Err (fault.Ask ask_fault.NoMemory)) targets = targets
+targets_behind (Err (fault.Reclaim (reclaim_fault.Ask ask_fault.NoMemory))) targets = targets
+targets_behind (Err e) targets = no_targets
+
+-- By the receipt the code of the serial was installed for the method, in place of the code in use.
 abbrev pub IsInstall : ℕ → ℕ → Stands → Type 0
 IsInstall method serial receipt
     = (old : DeskSeen) × (new : DeskSeen) × (replaced : Option CodeId) × (code : CodeId) × IsLegal old × (serial ≡ code.serial)
@@ -88,46 +108,56 @@ Invalidates serial (Err (fault.Invalidate f)) = (d : DeskSeen) × IsLegal d × (
 Invalidates serial (Err fault.Again) = Unit {0}
 Invalidates serial (Err e) = ⊥
 
--- The handshake of a reclaiming: it asks the names for the frames of the code, where there are any.
+-- The handshake of reclaiming, if there are names: it asks them for the code's frames.
 abbrev pub reclaiming_for : (serial : ℕ) → List ℕ → Option Request
 reclaiming_for serial [] = None
 reclaiming_for serial (name ∷ rest) = Some (Handshake (name ∷ rest) (CountOf serial))
 
--- Where there is a request it waits, by its number and the receipt. Without one the number is 0.
+-- The request, if there is one, waits with this number and receipt. Without one the number is 0.
 abbrev pub Waits : Option Request → ℕ → Option Stands → DeskSeen → DeskSeen → Type 0
 Waits None n receipt old new = (n ≡ 0) × (receipt ≡ None) × (new.book ≡ old.book)
 Waits (Some request) n None old new = ⊥
 Waits (Some request) n (Some receipt) old new = Enters old new (Entry.Ask n request) receipt
 
--- The round of a reclaiming was made, of a code that may be reclaimed, and its handshake waits.
-abbrev pub IsBegun : (serial : ℕ) → List ℕ → ℕ → Option Stands → Type 0
-IsBegun serial names n receipt
+-- Reclaiming of a code that may be reclaimed made its round, and its handshake waits.
+abbrev pub IsBegun : (serial : ℕ) → TargetsSeen → ℕ → Option Stands → Type 0
+IsBegun serial targets n receipt
     = (old : DeskSeen) × (new : DeskSeen) × IsLegal old × (retire_fault (unfreed (at old).table.codes serial) ≡ None) × (is_idle (at old) ≡ true)
-    × (new.keeper ≡ went_round old.keeper old.keeper.moment) × Waits (reclaiming_for serial names) n receipt old new
+    × (new.keeper ≡ went_round old.keeper old.keeper.moment) × Waits (reclaiming_for serial (targets_at targets (at old))) n receipt old new
 
-abbrev pub Begins : (serial : ℕ) → List ℕ → Told → Type 0
-Begins serial names (Ok n) = (receipt : Option Stands) × IsBegun serial names n receipt
-Begins serial names (Err (fault.Reclaim f))
-    = (d : DeskSeen) × IsLegal d × reclaim_refused (at d) serial (reclaiming_for serial names) (λ _. true) d.book d.keeper.moment f
-Begins serial names (Err fault.Again) = Unit {0}
-Begins serial names (Err fault.NoMemory) = Unit {0}
-Begins serial names (Err e) = ⊥
+abbrev pub Begins : (serial : ℕ) → TargetsSeen → Told → Type 0
+Begins serial targets (Ok n) = (receipt : Option Stands) × IsBegun serial targets n receipt
+Begins serial targets (Err (fault.Reclaim f))
+    = (d : DeskSeen) × IsLegal d × reclaim_refused (at d) serial (reclaiming_for serial (targets_at targets (at d))) (λ _. true) d.book d.keeper.moment f
+Begins serial targets (Err fault.Again) = Unit {0}
+Begins serial targets (Err fault.NoMemory) = Unit {0}
+Begins serial targets (Err e) = ⊥
 
--- The name's reply in the operation, of those that this desk keeps.
+-- The name's reply in the operation, if this desk stores it.
 abbrev pub ReplyAt : DeskSeen → (op name : ℕ) → Told → Type 0
 ReplyAt d op name (Ok n) = first_of name (replies_kept op d.book) ≡ Some n
-ReplyAt d op name (Err fault.NotAnswered) = first_of name (replies_kept op d.book) ≡ None
+ReplyAt d op name (Err fault.Pending) = (first_of name (replies_kept op d.book) ≡ None) × (least_pending (at d) ≤ op)
+ReplyAt d op name (Err fault.NotAnswered) = (first_of name (replies_kept op d.book) ≡ None) × (op < least_pending (at d))
 ReplyAt d op name (Err fault.NoMemory) = Unit {0}
 ReplyAt d op name (Err e) = ⊥
 
 abbrev pub FindsReply : (op name : ℕ) → Told → Type 0
 FindsReply op name said = (said ≡ Err fault.Again) ⊎ ((d : DeskSeen) × IsLegal d × ReplyAt d op name said)
 
--- The least name above this one that is live at a desk, 0 for none.
+-- The least live name above this one at a desk, 0 for none.
 abbrev pub FindsNext : (name : ℕ) → Told → Type 0
 FindsNext name (Ok n) = (d : DeskSeen) × IsLegal d × (n ≡ or_zero (live_after name (at d).live))
 FindsNext name (Err fault.Again) = Unit {0}
 FindsNext name (Err e) = ⊥
+
+-- The least number of an open or waiting request, 0 without one.
+abbrev pub pending_number : State → ℕ
+pending_number s = if is_idle s then 0 else least_pending s
+
+abbrev pub FindsPending : Told → Type 0
+FindsPending (Ok n) = (d : DeskSeen) × IsLegal d × (n ≡ pending_number (at d))
+FindsPending (Err fault.Again) = Unit {0}
+FindsPending (Err e) = ⊥
 
 -- The number of a kind, 0 for none.
 abbrev pub kind_number : Option Kind → ℕ
@@ -135,13 +165,13 @@ kind_number None = 0
 kind_number (Some kind.Handshake) = 1
 kind_number (Some kind.Census) = 2
 
--- Of which kind the oldest open request of a desk is, 0 where nothing is open. All that is open is of one kind.
+-- The kind of the oldest open request at a desk, 0 without one. All open requests are of one kind.
 abbrev pub FindsKind : Told → Type 0
 FindsKind (Ok n) = (d : DeskSeen) × IsLegal d × (n ≡ kind_number (open_kind (at d)))
 FindsKind (Err fault.Again) = Unit {0}
 FindsKind (Err e) = ⊥
 
--- A desk has forgotten all entries that it had.
+-- A desk has forgotten all its entries.
 abbrev pub Forgets : Told → Type 0
 Forgets (Ok n)
     = (n ≡ 0)

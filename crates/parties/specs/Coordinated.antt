@@ -1,4 +1,4 @@
--- What comes of an act of the coordinator.
+-- The results of the coordinator's acts.
 use Rattle.std.specs.Prelude.{◌≡◌, ◌≢◌, ◌<◌, ◌≤◌, ◌⊎◌, ℕ, List, true, false, Ok, Err, Option, Some, Result, slice_index}
 use Rattle.thread_state.specs.PollRule.{armed_with}
 use Rattle.bodies.specs.Census.{IsCensus}
@@ -38,8 +38,8 @@ Opens (Err (fault.Open f)) = (d : DeskSeen) × IsLegal d × open_refused (at d) 
 Opens (Err fault.Again) = Unit {0}
 Opens (Err e) = ⊥
 
--- The oldest request that wasn't told to the thread of the name is: by the receipt its berth has the job or the mark, and its place is armed
--- with that number. Nothing else changes.
+-- The named thread's oldest pending request is armed: by the receipt its berth has the job or mark, and its place is
+-- armed with that number. Nothing else changes.
 abbrev pub Arms : ℕ → Holding → ℕ → Acted → Holding → Type 0
 Arms name old n receipt new
     = (d : DeskSeen) × (t : Target) × IsLegal d × steps.IsUntold (at d) name old.armer t n × (0 < n)
@@ -55,16 +55,16 @@ Tells name old (Err (fault.Tell f)) new = (new ≡ old) × ((d : DeskSeen) × Is
 Tells name old (Err fault.Again) new = new ≡ old
 Tells name old (Err e) new = ⊥
 
--- A job in hand stays there; one of the name goes into its berth where that is told.
+-- A job in hand stays there, unless it is the one that was put into its berth.
 abbrev pub KeepsHand : {J : Type 0} → (J → ℕ) → (J → ℕ) → ℕ → Told → Option J → Option J → Type 0
 KeepsHand number whom name (Ok n) old new = (job : _) → old ≡ Some job → (new ≡ Some job) ⊎ ((whom job ≡ name) × (number job ≡ n))
 KeepsHand number whom name (Err e) old new = (job : _) → old ≡ Some job → new ≡ Some job
 
--- There is no such place; or the desk, as it can be, says why.
+-- There is no such place, or a desk with a legal history says why.
 abbrev pub ByDesk : {F : Type 0} → ℕ → ℕ → F → F → (DeskSeen → Type 0) → Type 0
 ByDesk places place none f says = ((places ≤ place) × (f ≡ none)) ⊎ ((d : DeskSeen) × IsLegal d × says d)
 
--- By the receipt the body of the place came out of its berth, and the number is the oldest that its thread owes.
+-- By the receipt the body of the place came out of its berth. The number is the oldest operation that its thread owes.
 abbrev pub IsHold : ℕ → Holding → ℕ → Moved → Holding → Type 0
 IsHold place old n receipt new
     = (d : DeskSeen) × IsLegal d × steps.HoldsBy (steps.In (at d)) old new place receipt
@@ -77,7 +77,7 @@ Holds places place old (Err (fault.Hold f)) new
 Holds places place old (Err fault.Again) new = new ≡ old
 Holds places place old (Err e) new = ⊥
 
--- The held body of the place is answered for.
+-- The held body of the place is served.
 abbrev pub IsServed : ℕ → Holding → ℕ → FinishSeen → Holding → Type 0
 IsServed place old n finish new = (d : DeskSeen) × IsLegal d × done.ServesBy (steps.In (at d)) old new place n finish
 
@@ -95,7 +95,8 @@ Releases places place old (Err (fault.Release f)) new
 Releases places place old (Err fault.Again) new = new ≡ old
 Releases places place old (Err e) new = ⊥
 
--- By the receipt the census is operated over the held bodies, which are all that live, and these are its counts.
+-- By the receipt the census is operated over the held bodies, which are those of all live threads, and these are its
+-- counts.
 abbrev pub IsOperate : Holding → ℕ → Stands → List (ℕ × ℕ) → Holding → Type 0
 IsOperate old n receipt counts new
     = ((before : DeskSeen) × (after : DeskSeen) × IsLegal before × Enters before after (Entry.Operate n) receipt × MayOperate (at before) old.held)
@@ -107,12 +108,12 @@ Operates old (Err (fault.Operate f)) counts new = (new ≡ old) × ((d : DeskSee
 Operates old (Err fault.Again) counts new = new ≡ old
 Operates old (Err e) counts new = ⊥
 
--- What a census counted takes the place of what one before it did.
+-- The counts of a census replace those of the one before.
 abbrev pub SameCounts : {A F : Type 0} → Result A F → List (ℕ × ℕ) → List (ℕ × ℕ) → Type 0
 SameCounts (Ok n) old new = Unit {0}
 SameCounts (Err e) old new = new ≡ old
 
--- By the receipt the request of the number is closed, which was the one asked for, and of which no held thread is a target.
+-- By the receipt the request of this number, which was asked for, is closed. No held thread is a target of it.
 abbrev pub IsClose : Option ℕ → Holding → ℕ → Stands → Holding → Type 0
 IsClose number old n receipt new
     = ((before : DeskSeen) × (after : DeskSeen) × IsLegal before × Enters before after (Entry.Close n) receipt × steps.MayCloseIn (at before) old number n)
@@ -124,11 +125,11 @@ Closes number old (Err (fault.Close f)) new = ((d : DeskSeen) × IsLegal d × cl
 Closes number old (Err fault.Again) new = new ≡ old
 Closes number old (Err e) new = ⊥
 
--- What became of the code at a desk as it can be, where all places had just been looked at.
+-- The result of weighing the code at a desk with a legal history, right after a look at all places.
 abbrev pub IsWeighed : {N : Type 0} → ℕ → ℕ → Reclaimed N → Type 0
 IsWeighed places serial said = (d : DeskSeen) × IsLegal d × IsReclaimedFrom d places serial said
 
--- It was freed, or so many activations stand.
+-- The code was freed, or it has this many activations.
 abbrev pub Weighs : (N : Type 0) → ℕ → ℕ → Told → Type 0
 Weighs N places serial (Ok n)
     = ((receipt : Stands) × (n ≡ 0) × IsWeighed {N = N} places serial (became.Freed receipt))

@@ -1,4 +1,4 @@
-//! What a party is asked to do, and why it doesn't.
+//! The acts of a party, and why an act isn't done.
 ghost use Rattle.std.specs.Prelude.{◌≡◌};
 
 use coordinator_core::{HoldFault, OperateFault, ReleaseFault, ServeFault, TellFault};
@@ -6,10 +6,10 @@ use desk::{AskFault, CloseFault, CodeFault, OpenFault, ReclaimFault, StartFault}
 use method_table::table::InvalidateFault;
 use operations::Ask;
 
-/// What a party is asked to do.
+/// An act of a party.
 #[derive(Clone, Copy, PartialEq, Eq, Debug, Drop)]
 pub enum Act {
-    /// The party becomes a thread, and starts.
+    /// The party becomes a thread and starts.
     Start,
     Call(u32),
     Ret,
@@ -28,67 +28,76 @@ pub enum Act {
     Name,
     Place,
     State,
-    /// The name is one of the targets of the next request.
+    /// Adds the name to the targets of the next request.
     Target(u64),
-    /// A handshake of the targets waits, or (None) a census.
+    /// Makes all threads that are live at the Submit the targets of the next request.
+    TargetAll,
+    /// Queues a handshake of the targets or, for None, a census.
     Submit(Option<Ask>),
     Install(u32),
     Invalidate(u64),
-    /// The reply of a name in an operation.
+    /// The reply in an operation (the first number) of a name (the second).
     Reply(u64, u64),
-    /// The least name above this one that is live.
+    /// The least live name above this one.
     LiveAfter(u64),
-    /// Of which kind what is open is, as a number.
+    /// The kind of the open requests, as a number.
     OpenKind,
+    /// The least number of an open or waiting request, 0 without one.
+    Pending,
     Forget,
     Open,
     Tell(u64),
     Hold(usize),
     Serve(usize),
     Release(usize),
-    /// The census that is open is operated over the held threads.
+    /// Operates the open census over the held threads.
     Operate,
-    /// How many frames the code of the serial had in the census that was operated last.
+    /// How many frames the code of the serial had in the last operated census.
     Counted(u64),
-    /// The open request of the number closes, or (None) the oldest.
+    /// Closes the open request of the number or, for None, the oldest.
     Close(Option<u64>),
-    /// The work on the open requests goes on as far as it can without waiting: the number of the request that it closed.
+    /// Advances the work on the open requests as far as it goes without waiting: the number of the request that it
+    /// closed.
     Advance,
-    /// The operation for which a held thread is served next, 0 without one.
+    /// The operation of the host's next callback, 0 without one.
     CalledOperation,
-    /// The place of that thread.
+    /// The place of the held thread of that callback.
     CalledPlace,
     /// How many threads the work waits for.
     Awaited,
-    /// The first step of reclaiming a code: the round, and a handshake of the targets waits where there are any.
+    /// The first step of reclaiming a code: makes a round, and queues a handshake of the targets if there are any.
     Reclaim(u64),
-    /// The last: the code is weighed, and freed where no activation stands.
+    /// The last step: weighs the code, and frees it if it has no activation.
     Weigh(u64),
 }
 
 /// Why an act isn't done.
 #[derive(Clone, Copy, PartialEq, Eq, Debug, Drop)]
 pub enum Fault {
-    /// What it needs isn't there, or a lock is taken: it may be asked again.
+    /// A lock is taken, or something that the act needs isn't there. Try again.
     Again,
     NoMemory,
-    /// The party isn't in this part.
+    /// Parties of this role don't do the act.
     NotThis,
-    /// The thread isn't in the state for this.
+    /// The thread's state doesn't allow the act.
     Illegal,
     NoSuchMethod,
     DepthFull,
     EmptyStack,
     StackNotEmpty,
-    /// No answer of the name in the operation is kept.
+    /// The operation isn't closed and has no reply of the name.
+    Pending,
+    /// No reply of the name in the operation is stored.
     NotAnswered,
-    /// The code isn't one that can be weighed.
+    /// The code can't be weighed.
     NotWeighed,
-    /// The least place whose thread may still enter the code, or have entered it without having published that.
+    /// The least place whose thread may still enter the code, or may have entered it and not published since.
     Late(usize),
-    /// A held thread is served next. The host may run its part of that operation now.
+    /// A held thread is served next. The host may run its part of that handshake before.
     Runs,
-    /// Threads of the request aren't at a safe point yet.
+    /// The census is operated, and all live threads are held. The host may run its VM operation.
+    AtSafepoint,
+    /// Threads of the request aren't at a safepoint yet.
     Awaits,
     Start(StartFault),
     Ask(AskFault),

@@ -1,5 +1,5 @@
-//! The steps of the coordinator: each tries the desk's lock, and behind it that of one room where it needs it. What is done is answered with
-//! its receipt.
+//! The steps of the coordinator. Each tries the desk's lock and, after it, the lock of one room if it needs the room.
+//! It returns the receipt of what it did.
 ghost use Rattle.std.specs.Prelude.{◌≡◌, Ok, Err, IfOk, IfErr, OnErr, IfSome, IfNone};
 ghost use Rattle.desk.specs.declared.entries.Entry.{Entry};
 ghost use Rattle.coordinator_core.specs.Done as done;
@@ -17,7 +17,7 @@ use desk::{Closing, Finished, Operating, Receipt};
 use operations::job::{HandshakeOp, Query};
 use std::alloc::Global;
 
-/// Opens the oldest request that waits: its number.
+/// Opens the oldest waiting request. Returns its number.
 pub(crate) fn open<N: Name>(system: &SharedSystem<N>) -> Result<(u64, Receipt<N>), Fault>
     ensures entered { IfOk result (λ r. IsEntry (Entry.Open r.0) r.1) }
     ensures refused { IfErr result (λ e. Opens (Err e)) }
@@ -32,7 +32,8 @@ pub(crate) fn open<N: Name>(system: &SharedSystem<N>) -> Result<(u64, Receipt<N>
     }
 }
 
-/// Tells a name: the number that its place is armed with; None where the name is gone.
+/// Arms the named thread for its oldest pending request. Returns the number with which its place is armed, or None if
+/// the name is gone.
 pub(crate) fn tell<'s, 'c, 'h, N: Name>(
     system: &'s SharedSystem<N>,
     keeps: &'c mut CoordinatorCore<N>,
@@ -77,7 +78,7 @@ pub(crate) fn tell<'s, 'c, 'h, N: Name>(
     }
 }
 
-/// Holds the thread of a place: the number of the oldest operation that it owes.
+/// Holds the thread of a place. Returns the number of the oldest operation that the thread owes.
 pub(crate) fn hold<'s, 'c, N: Name>(
     system: &'s SharedSystem<N>,
     keeps: &'c mut CoordinatorCore<N>,
@@ -102,7 +103,7 @@ pub(crate) fn hold<'s, 'c, N: Name>(
     }
 }
 
-/// Serves the held thread of a place: the number of the operation.
+/// Serves the held thread of a place. Returns the number of the operation.
 pub(crate) fn serve<'s, 'c, N: Name>(
     system: &'s SharedSystem<N>,
     keeps: &'c mut CoordinatorCore<N>,
@@ -134,7 +135,7 @@ pub(crate) fn serve<'s, 'c, N: Name>(
     }
 }
 
-/// The held thread of a place is let go.
+/// Releases the held thread of a place.
 pub(crate) fn release<'s, 'c, N: Name>(
     system: &'s SharedSystem<N>,
     keeps: &'c mut CoordinatorCore<N>,
@@ -163,7 +164,7 @@ pub(crate) fn release<'s, 'c, N: Name>(
     }
 }
 
-/// Operates the open census over the held threads: its number. What it counted takes the place of the list.
+/// Operates the open census over the held threads. Returns its number. Its counts replace the list.
 pub(crate) fn operate<'s, 'c, 'l, N: Name>(
     system: &'s SharedSystem<N>,
     keeps: &'c mut CoordinatorCore<N>,
@@ -190,7 +191,7 @@ pub(crate) fn operate<'s, 'c, 'l, N: Name>(
     }
 }
 
-/// Closes the open request of the number, or without one the oldest: its number.
+/// Closes the open request of the number or, without one, the oldest. Returns its number.
 pub(crate) fn close<'s, 'c, N: Name>(
     system: &'s SharedSystem<N>,
     keeps: &'c mut CoordinatorCore<N>,
@@ -209,7 +210,7 @@ pub(crate) fn close<'s, 'c, N: Name>(
     }
 }
 
-/// Weighs a code, and frees it where no activation stands.
+/// Weighs a code, and frees it if it has no activation.
 pub(crate) fn weigh<N: Name>(system: &SharedSystem<N>, serial: u64) -> Result<Reclaimed<N>, Fault>
     ensures weighed { IfOk result (IsWeighed N.board.places serial) }
     ensures refused { IfErr result (λ e. Weighs N N.board.places serial (Err e)) }

@@ -1,4 +1,4 @@
-//! The steps of a thread that take a lock: each tries one, that of its room or the desk's.
+//! The steps of a thread that take a lock. Each tries one: its room's or the desk's.
 ghost use Rattle.std.specs.Prelude.{◌≡◌, ◌≢◌, ◌<◌, true, Ok, Err, IfOk, IfErr, IfSome};
 ghost use Rattle.desk.specs.declared.entries.Entry.{Entry};
 ghost use Rattle.thread_list.specs.Moves.{SameThread};
@@ -12,7 +12,7 @@ use bodies::Name;
 use desk::{Finished, Receipt};
 use thread_list::{Entered, ExitFault, Poll, RunningThread, VacateFault};
 
-/// The number of what a poll answered.
+/// The result of a poll, as a number.
 #[inline(always)]
 pub(crate) fn number_of(poll: Poll) -> u64
     ensures { result ≡ number_of poll }
@@ -129,7 +129,7 @@ pub(crate) fn stop_serve<'s, 'r, N: Name>(
     }
 }
 
-/// Enters a Start: the name and the place of the thread.
+/// Enters a Start. Returns the name and the place of the thread.
 pub(crate) fn enter_start<N: Name>(
     system: &SharedSystem<N>,
     has_image: bool,
@@ -161,7 +161,7 @@ pub(crate) fn move_in<N: Name>(
     entered.move_in(&mut *room.value, system.board(), system.row())
 }
 
-/// The thread gives its place up. Else what it is told, with the thread.
+/// Gives up the thread's place. Otherwise returns the result of the exit, and the thread.
 pub(crate) fn vacate<N: Name>(
     system: &SharedSystem<N>,
     runner: RunningThread<N>,
@@ -186,7 +186,7 @@ pub(crate) fn vacate<N: Name>(
     }
 }
 
-/// Enters the Exit of the name. None where that isn't entered.
+/// Enters the Exit of the name. None if the desk doesn't enter it.
 pub(crate) fn enter_exit<N: Name>(system: &SharedSystem<N>, name: u64) -> Option<Receipt<N>>
     ensures { IfSome result (IsEntry (Entry.Exit name)) }
 {

@@ -1,4 +1,4 @@
-//! What the faults of acts say of themselves.
+//! The texts of the faults of acts.
 use crate::acts::Fault;
 use std::error::Error;
 use std::fmt;
@@ -14,10 +14,12 @@ impl fmt::Display for Fault {
             Fault::DepthFull => f.write_str("the stack is full"),
             Fault::EmptyStack => f.write_str("the stack is empty"),
             Fault::StackNotEmpty => f.write_str("the stack is not empty"),
+            Fault::Pending => f.write_str("the operation isn't closed yet"),
             Fault::NotAnswered => f.write_str("no answer of the name is kept"),
             Fault::NotWeighed => f.write_str("the code is not one that can be weighed"),
             Fault::Late(place) => write!(f, "the thread at place {place} is late"),
             Fault::Runs => f.write_str("a held thread is served next"),
+            Fault::AtSafepoint => f.write_str("all live threads are held at a safepoint"),
             Fault::Awaits => f.write_str("threads have still to come"),
             Fault::Start(fault) => write!(f, "{fault}"),
             Fault::Ask(fault) => write!(f, "{fault}"),

@@ -1,8 +1,7 @@
-//! The steps of a running system for callers that wait by themselves.
-//! `safepoint` serves it to C.
+//! The steps of a running system for callers that wait by themselves. `safepoint` offers them to C.
 //! Read `src/acts.rt` first, then `src/party.rt` and `specs/Acted.antt`.
 //!
-//! Each act is one try: a lock that it needs is only tried, and where it is taken, or what the act needs isn't there, it answers that it may be asked again.
+//! Each act is one try. If a lock that it needs is taken, or something that it needs isn't there, it returns `Again`.
 #![tactic(auto)]
 
 pub mod acts;
@@ -13,6 +12,7 @@ mod crossing;
 mod driving;
 mod fault_texts;
 mod lock_rule;
+mod next_targets;
 mod pairs;
 pub mod party;
 mod party_asks;

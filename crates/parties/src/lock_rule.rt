@@ -1,9 +1,9 @@
-//! The rule of a lock: while its word is 0 its value is at home.
+//! The rule of a lock: while its word is 0, its value is in its slot.
 ghost use Rattle.parties.specs.Locked.{IsLock, Tried};
 
 use atomic_table::{Play, TableRule};
 
-// The lock's word stands in the middle of a block, so that no line of the cache that has it has anything else.
+// The lock's word is in the middle of a block of words, so that its cache line has nothing else.
 pub(crate) const WORDS: usize = 15;
 
 pub(crate) const WORD: usize = 7;
@@ -20,14 +20,14 @@ impl<T> TableRule<Option<T>, (), ()> for LockLaw {
     ghost first = { λ _. tt };
 }
 
-// Who finds the lock free has its value.
+// A thread that finds the lock free has its value.
 pub(crate) struct Tries;
 
 impl<T> Play<Option<T>, ()> for Tries {
     ghost then = { λ _ _ found after. Tried found after.1 };
 }
 
-// The value is at home again.
+// The value is in its slot again.
 pub(crate) struct PutsBack;
 
 impl<T> Play<Option<T>, ()> for PutsBack {

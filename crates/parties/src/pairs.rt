@@ -1,8 +1,8 @@
-//! What stands with a key in a list of pairs.
+//! A lookup in a list of pairs.
 ghost use Rattle.std.specs.Prelude.{◌≡◌};
 ghost use Rattle.parties.specs.Pairs.{first_of};
 
-/// What stands with the key at its first.
+/// The value of the first pair with the key.
 pub(crate) fn first_of<T: Copy>(list: &[(u64, T)], key: u64) -> Option<T>
     ensures { result ≡ first_of key list.now }
 {

@@ -1,8 +1,9 @@
-//! A party to a running system: one that only shares it, a thread, or the coordinator.
+//! A party of a running system: a client, a thread or the coordinator.
 ghost use Rattle.std.specs.Prelude.{◌≡◌, IfOk};
 ghost use Rattle.parties.specs.Acted.{Acts, party_as};
 
 use crate::acts::{Act, Fault};
+use crate::next_targets::NextTargets;
 use crate::system::SharedSystem;
 use berths::BodyReceipt;
 use bodies::Name;
@@ -13,37 +14,36 @@ use std::marker::Model;
 use std::sync::Arc;
 use thread_list::{Entered, RunningThread};
 
-/// What a party is.
+/// The role of a party.
 #[derive(Drop)]
 pub enum Role<N: Name> {
-    /// It only shares the system.
+    /// A client, which only shares the system.
     Shares,
     /// A thread whose Start is entered.
     Starts(Entered<N>),
     /// A thread.
     Runs(RunningThread<N>),
-    /// A thread that gave its place up, and whose Exit isn't entered.
+    /// A thread that gave up its place, and whose Exit isn't entered.
     Leaves(BodyReceipt<N>),
-    /// A thread that is gone.
+    /// A thread that exited.
     Gone,
     /// The coordinator.
     Coordinates(CoordinatorCore<N>),
 }
 
-/// A party, with what it shares. Contracts see what it is, the names of its next request, what its last census counted, the job in hand, and
-/// how far its work on the open requests is.
+/// A party, with the system that it shares. Contracts see its role, the targets of its next request, the counts of its
+/// last census, the job in hand, and the state of its work on the open requests.
 #[derive(Drop)]
 pub struct Party<N: Name> {
     pub(crate) system: Arc<SharedSystem<N>>,
     pub(crate) alloc: Global,
     pub(crate) role: Role<N>,
-    /// The names of the next request's targets.
-    pub(crate) names: Vec<u64>,
-    /// A job that came out of the desk and found no room.
+    pub(crate) targets: NextTargets,
+    /// A job that came out of the desk and had no room.
     pub(crate) hand: Option<Query>,
-    /// What the census that was operated last counted.
+    /// The counts of the last operated census.
     pub(crate) counts: Vec<(u64, u32)>,
-    /// How far the coordinator's work on the open requests is.
+    /// The state of the coordinator's work on the open requests.
     pub(crate) drive: Drive<Query>,
 }
 
@@ -55,7 +55,7 @@ impl<N: Name> Model for Party<N> {
 
     ghost view = { λ p. record {
       role = p.role;
-      names = p.names.items;
+      targets = p.targets;
       counts = p.counts.items;
       hand = p.hand;
       drive = p.drive;
@@ -65,7 +65,7 @@ impl<N: Name> Model for Party<N> {
 }
 
 impl<N: Name> Party<N> {
-    /// A party that only shares the system.
+    /// Makes a client.
     pub fn new(alloc: Global, system: Arc<SharedSystem<N>>) -> Party<N>
         ensures { result ≡ party_as Role.Shares }
     {
@@ -73,14 +73,14 @@ impl<N: Name> Party<N> {
             system,
             alloc,
             role: Role::Shares,
-            names: Vec::new(alloc),
+            targets: NextTargets::none(alloc),
             hand: None,
             counts: Vec::new(alloc),
             drive: Drive::none(alloc),
         }
     }
 
-    /// The coordinator.
+    /// Makes the coordinator.
     pub fn coordinator(
         alloc: Global,
         system: Arc<SharedSystem<N>>,
@@ -92,7 +92,7 @@ impl<N: Name> Party<N> {
             system,
             alloc,
             role: Role::Coordinates(steps),
-            names: Vec::new(alloc),
+            targets: NextTargets::none(alloc),
             hand: None,
             counts: Vec::new(alloc),
             drive: Drive::none(alloc),
@@ -103,7 +103,7 @@ impl<N: Name> Party<N> {
         self.alloc
     }
 
-    /// Another one, of the same system.
+    /// Makes a client of the same system. Refused only if memory is refused.
     pub fn fork(&self) -> Result<Party<N>, AllocError>
         ensures { IfOk result (λ p. p ≡ party_as Role.Shares) }
     {
@@ -111,7 +111,7 @@ impl<N: Name> Party<N> {
         Ok(Party::new(self.alloc, system))
     }
 
-    /// Does an act.
+    /// Does an act. Returns the act's number, or why it isn't done.
     #[inline(always)]
     pub fn act(&mut self, act: Act) -> Result<u64, Fault>
         ensures { Acts N.board.places self.old act result self.new }
@@ -135,12 +135,14 @@ impl<N: Name> Party<N> {
             Act::Place => self.place(),
             Act::State => self.state(),
             Act::Target(name) => self.target(name),
+            Act::TargetAll => self.target_all(),
             Act::Submit(ask) => self.submit(ask),
             Act::Install(method) => self.install(method),
             Act::Invalidate(serial) => self.invalidate(serial),
             Act::Reply(op, name) => self.reply(op, name),
             Act::LiveAfter(name) => self.live_after(name),
             Act::OpenKind => self.open_kind(),
+            Act::Pending => self.pending(),
             Act::Forget => self.forget(),
             Act::Open => self.open(),
             Act::Tell(name) => self.tell(name),

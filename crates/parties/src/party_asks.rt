@@ -1,4 +1,5 @@
-//! What any party asks of the desk.
+//! The calls of any party at the desk. Each is refused with `Again` first, if the desk's lock is taken; `target` and
+//! `target_all` need no lock.
 ghost use Rattle.std.specs.Prelude.{◌≡◌};
 ghost use Rattle.parties.specs.Acted.{Acts};
 
@@ -9,38 +10,48 @@ use bodies::Name;
 use operations::Ask;
 
 impl<N: Name> Party<N> {
-    /// The name is one of the targets of the next request.
+    /// Adds the name to the targets of the next request. Refused with `NoMemory`.
     pub fn target(&mut self, name: u64) -> Result<u64, Fault>
         ensures { Acts N.board.places self.old (Act.Target name) result self.new }
     {
-        match self.names.push(name) {
+        match self.targets.add(name) {
             Ok(()) => Ok(0),
             Err(_) => Err(Fault::NoMemory),
         }
     }
 
-    /// A handshake of the targets that were named waits, or a census of all: its number.
+    /// Makes all threads that are live at the `submit` the targets of the next request.
+    pub fn target_all(&mut self) -> Result<u64, Fault>
+        ensures { Acts N.board.places self.old Act.TargetAll result self.new }
+    {
+        self.targets.be_all();
+        Ok(0)
+    }
+
+    /// Queues a handshake of the targets or, without an ask, a census. Returns its number. Refused with `NoMemory` or
+    /// `Ask`.
     pub fn submit(&mut self, ask: Option<Ask>) -> Result<u64, Fault>
         ensures { Acts N.board.places self.old (Act.Submit ask) result self.new }
     {
-        let (number, _receipt) = asking::submit(&self.system, self.alloc, &mut self.names, ask)?;
+        let (number, _receipt) = asking::submit(&self.system, self.alloc, &mut self.targets, ask)?;
         Ok(number)
     }
 
-    /// The first step of reclaiming a code: a round, and a handshake of the targets that were named waits, where there are any: its number.
+    /// Does the first step of reclaiming a code: makes a round, and queues a handshake of the targets if there are any.
+    /// Returns its number, 0 without one. Refused with `NoMemory` or `Reclaim`.
     pub fn reclaim(&mut self, serial: u64) -> Result<u64, Fault>
         ensures { Acts N.board.places self.old (Act.Reclaim serial) result self.new }
     {
         let (number, _receipt) = asking::reclaim(
             &self.system,
             self.alloc,
-            &mut self.names,
+            &mut self.targets,
             serial,
         )?;
         Ok(number)
     }
 
-    /// Installs a code for the method: its serial.
+    /// Installs a code for the method. Returns its serial. Refused with `Code`.
     pub fn install(&mut self, method: u32) -> Result<u64, Fault>
         ensures { Acts N.board.places self.old (Act.Install method) result self.new }
     {
@@ -48,7 +59,7 @@ impl<N: Name> Party<N> {
         Ok(serial)
     }
 
-    /// No thread enters the code of the serial any more.
+    /// Makes the code of the serial not entrant. Refused with `Invalidate`.
     pub fn invalidate(&mut self, serial: u64) -> Result<u64, Fault>
         ensures { Acts N.board.places self.old (Act.Invalidate serial) result self.new }
     {
@@ -56,28 +67,35 @@ impl<N: Name> Party<N> {
         Ok(0)
     }
 
-    /// The reply of a name in an operation.
+    /// Returns the name's reply in the operation. Refused with `NoMemory`, then `Pending` or `NotAnswered`.
     pub fn reply(&mut self, op: u64, name: u64) -> Result<u64, Fault>
         ensures { Acts N.board.places self.old (Act.Reply op name) result self.new }
     {
         asking::reply(&self.system, op, name)
     }
 
-    /// The least name above this one that is live, 0 for none.
+    /// Returns the least live name above this one, 0 for none.
     pub fn live_after(&mut self, name: u64) -> Result<u64, Fault>
         ensures { Acts N.board.places self.old (Act.LiveAfter name) result self.new }
     {
         asking::live_after(&self.system, name)
     }
 
-    /// Of which kind what is open is, as a number: 0 where nothing is open, handshakes 1, a census 2.
+    /// Returns the kind of the open requests: 0 if none is open, 1 for handshakes, 2 for a census.
     pub fn open_kind(&mut self) -> Result<u64, Fault>
         ensures { Acts N.board.places self.old Act.OpenKind result self.new }
     {
         asking::open_kind(&self.system)
     }
 
-    /// Forgets what was entered so far, and the replies of what comes before all that is open or waits.
+    /// Returns the least number of an open or waiting request, 0 without one.
+    pub fn pending(&mut self) -> Result<u64, Fault>
+        ensures { Acts N.board.places self.old Act.Pending result self.new }
+    {
+        asking::pending(&self.system)
+    }
+
+    /// Forgets all entries so far, and the replies to each operation before the first that is open or waits.
     pub fn forget(&mut self) -> Result<u64, Fault>
         ensures { Acts N.board.places self.old Act.Forget result self.new }
     {

@@ -1,4 +1,4 @@
-//! What the coordinator does.
+//! The coordinator's acts. Each is refused with `NotThis` for another party, and with `Again` if a lock is taken.
 ghost use Rattle.std.specs.Prelude.{◌≡◌};
 ghost use Rattle.parties.specs.Acted.{Acts};
 
@@ -10,7 +10,7 @@ use crate::weighed::told_of;
 use bodies::Name;
 
 impl<N: Name> Party<N> {
-    /// Opens the oldest request that waits: its number.
+    /// Opens the oldest waiting request. Returns its number.
     pub fn open(&mut self) -> Result<u64, Fault>
         ensures { Acts N.board.places self.old Act.Open result self.new }
     {
@@ -21,7 +21,8 @@ impl<N: Name> Party<N> {
         Ok(number)
     }
 
-    /// Tells a name: the number that its place is armed with, 0 where the name is gone.
+    /// Arms the named thread for its oldest pending request. Returns the number with which its place is armed, 0 if the
+    /// name is gone.
     pub fn tell(&mut self, name: u64) -> Result<u64, Fault>
         ensures { Acts N.board.places self.old (Act.Tell name) result self.new }
     {
@@ -34,7 +35,7 @@ impl<N: Name> Party<N> {
         }
     }
 
-    /// Holds the thread of a place: the number of the oldest operation that it owes.
+    /// Holds the thread of a place. Returns the number of the oldest operation that the thread owes.
     pub fn hold(&mut self, place: usize) -> Result<u64, Fault>
         ensures { Acts N.board.places self.old (Act.Hold place) result self.new }
     {
@@ -45,7 +46,7 @@ impl<N: Name> Party<N> {
         Ok(number)
     }
 
-    /// Serves the held thread of a place: the number of the operation.
+    /// Serves the held thread of a place. Returns the number of the operation.
     pub fn serve(&mut self, place: usize) -> Result<u64, Fault>
         ensures { Acts N.board.places self.old (Act.Serve place) result self.new }
     {
@@ -56,7 +57,7 @@ impl<N: Name> Party<N> {
         Ok(number)
     }
 
-    /// Lets the held thread of a place go.
+    /// Releases the held thread of a place.
     pub fn release(&mut self, place: usize) -> Result<u64, Fault>
         ensures { Acts N.board.places self.old (Act.Release place) result self.new }
     {
@@ -67,7 +68,7 @@ impl<N: Name> Party<N> {
         Ok(0)
     }
 
-    /// Operates the open census over the held threads: its number.
+    /// Operates the open census over the held threads. Returns its number.
     pub fn operate(&mut self) -> Result<u64, Fault>
         ensures { Acts N.board.places self.old Act.Operate result self.new }
     {
@@ -83,7 +84,7 @@ impl<N: Name> Party<N> {
         Ok(number)
     }
 
-    /// Closes the open request of the number, or without one the oldest: its number.
+    /// Closes the open request of the number or, without one, the oldest. Returns its number.
     pub fn close(&mut self, number: Option<u64>) -> Result<u64, Fault>
         ensures { Acts N.board.places self.old (Act.Close number) result self.new }
     {
@@ -94,7 +95,7 @@ impl<N: Name> Party<N> {
         Ok(number)
     }
 
-    /// Weighs a code, and frees it where no activation stands: 0 then, or how many stand.
+    /// Weighs a code, and frees it if it has no activation. Returns how many activations it has.
     pub fn weigh(&mut self, serial: u64) -> Result<u64, Fault>
         ensures { Acts N.board.places self.old (Act.Weigh serial) result self.new }
     {
@@ -105,7 +106,7 @@ impl<N: Name> Party<N> {
         told_of(reclaimed)
     }
 
-    /// How many frames the code of the serial had in the census that was operated last.
+    /// Returns how many frames the code of the serial had in the last operated census. Any party may call it.
     pub fn counted(&mut self, serial: u64) -> Result<u64, Fault>
         ensures { Acts N.board.places self.old (Act.Counted serial) result self.new }
     {

@@ -6,9 +6,11 @@ use crate::acts::{Act, Fault};
 use crate::driving;
 use crate::party::{Party, Role};
 use bodies::Name;
+use coordinator_core::Callback;
 
 impl<N: Name> Party<N> {
-    /// Goes on with the work on the open requests as far as it can without waiting: the number of the request that it closed.
+    /// Advances the work on the open requests as far as it goes without waiting. Returns the number of the request that
+    /// it closed, or why the work rests.
     pub fn advance(&mut self) -> Result<u64, Fault>
         ensures { Acts N.board.places self.old Act.Advance result self.new }
     {
@@ -24,27 +26,29 @@ impl<N: Name> Party<N> {
         )
     }
 
-    /// The operation for which a held thread is served next, 0 without one.
+    /// Returns the operation of the host's next callback, 0 without one.
     pub fn called_operation(&mut self) -> Result<u64, Fault>
         ensures { Acts N.board.places self.old Act.CalledOperation result self.new }
     {
         match self.drive.called() {
-            Some((operation, _)) => Ok(operation),
+            Some(Callback::Handshake(operation, _) | Callback::Safepoint(operation)) => {
+                Ok(operation)
+            }
             None => Ok(0),
         }
     }
 
-    /// The place of that thread, 0 without one.
+    /// Returns the place of the held thread of that callback, 0 without one.
     pub fn called_place(&mut self) -> Result<u64, Fault>
         ensures { Acts N.board.places self.old Act.CalledPlace result self.new }
     {
         match self.drive.called() {
-            Some((_, place)) => Ok(place as u64),
-            None => Ok(0),
+            Some(Callback::Handshake(_, place)) => Ok(place as u64),
+            Some(Callback::Safepoint(_)) | None => Ok(0),
         }
     }
 
-    /// How many threads the work waits for.
+    /// Returns how many threads the work waits for.
     pub fn awaited(&mut self) -> Result<u64, Fault>
         ensures { Acts N.board.places self.old Act.Awaited result self.new }
     {

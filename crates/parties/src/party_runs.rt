@@ -1,4 +1,5 @@
-//! What a thread does.
+//! The acts of a thread. Each is refused with `NotThis` for another party. A poll's number is the one that the poll
+//! word is armed with, or 0 if the thread continues.
 ghost use Rattle.std.specs.Prelude.{◌≡◌, ◌≢◌, Ok, Err, IfOk, IfErr};
 ghost use Rattle.parties.specs.Asked.{WasStarted};
 ghost use Rattle.parties.specs.Acted.{Acts, GivesUp, StartFails, code_of};
@@ -31,7 +32,7 @@ fn code_of(state: State) -> u64
 }
 
 impl<N: Name> Party<N> {
-    /// A back edge: the number of the poll, 0 to go on.
+    /// Takes a back edge. Returns the poll's number.
     #[inline(always)]
     pub fn back_edge(&mut self) -> Result<u64, Fault>
         ensures { Acts N.board.places self.old Act.BackEdge result self.new }
@@ -39,7 +40,7 @@ impl<N: Name> Party<N> {
         let Role::Runs(runner) = &mut self.role else {
             return Err(Fault::NotThis);
         };
-        // In one match, of which the compiler makes one path where the thread goes on.
+        // One match, of which the compiler makes one path for a thread that continues.
         match runner.back_edge(self.system.row()) {
             Ok(Poll::Go) => Ok(0),
             Ok(Poll::Stop(n)) => Ok(n),
@@ -47,7 +48,7 @@ impl<N: Name> Party<N> {
         }
     }
 
-    /// A call: the serial of the code, 0 where it is interpreted.
+    /// Calls a method. Returns the serial of its code, 0 if it is interpreted.
     #[inline(always)]
     pub fn call(&mut self, method: u32) -> Result<u64, Fault>
         ensures { Acts N.board.places self.old (Act.Call method) result self.new }
@@ -65,7 +66,7 @@ impl<N: Name> Party<N> {
         }
     }
 
-    /// A return: the number of the poll, 0 to go on.
+    /// Returns from a method. Returns the poll's number.
     #[inline(always)]
     pub fn ret(&mut self) -> Result<u64, Fault>
         ensures { Acts N.board.places self.old Act.Ret result self.new }
@@ -118,7 +119,7 @@ impl<N: Name> Party<N> {
         }
     }
 
-    /// Into native code.
+    /// Goes into native code.
     #[inline(always)]
     pub fn to_native(&mut self) -> Result<u64, Fault>
         ensures { Acts N.board.places self.old Act.ToNative result self.new }
@@ -129,7 +130,7 @@ impl<N: Name> Party<N> {
         crossing::to_native(&self.system, runner)
     }
 
-    /// Back from native code: the number of the poll, 0 to go on.
+    /// Comes back from native code. Returns the poll's number.
     #[inline(always)]
     pub fn from_native(&mut self) -> Result<u64, Fault>
         ensures { Acts N.board.places self.old Act.FromNative result self.new }
@@ -140,7 +141,7 @@ impl<N: Name> Party<N> {
         crossing::from_native(&self.system, runner)
     }
 
-    /// From the VM into a wait that the runtime knows of.
+    /// Goes from the VM into a wait that the runtime knows of.
     pub fn block(&mut self) -> Result<u64, Fault>
         ensures { Acts N.board.places self.old Act.Block result self.new }
     {
@@ -150,7 +151,7 @@ impl<N: Name> Party<N> {
         crossing::block(&self.system, runner)
     }
 
-    /// Back from a wait: the number of the poll, 0 to go on.
+    /// Comes back from a wait. Returns the poll's number.
     pub fn unblock(&mut self) -> Result<u64, Fault>
         ensures { Acts N.board.places self.old Act.Unblock result self.new }
     {
@@ -160,7 +161,7 @@ impl<N: Name> Party<N> {
         crossing::unblock(&self.system, runner)
     }
 
-    /// The thread's name.
+    /// Returns the thread's name.
     pub fn name(&mut self) -> Result<u64, Fault>
         ensures { Acts N.board.places self.old Act.Name result self.new }
     {
@@ -170,7 +171,7 @@ impl<N: Name> Party<N> {
         Ok(runner.name())
     }
 
-    /// The place whose words are the thread's.
+    /// Returns the place of the thread and its words.
     pub fn place(&mut self) -> Result<u64, Fault>
         ensures { Acts N.board.places self.old Act.Place result self.new }
     {
@@ -180,7 +181,7 @@ impl<N: Name> Party<N> {
         Ok(runner.place() as u64)
     }
 
-    /// The thread's state, as a number: in Java 0, in the VM 1, at a poll 2, in native code 3, blocked 4, serving 5.
+    /// Returns the thread's state: 0 in Java, 1 in the VM, 2 at a poll, 3 in native code, 4 blocked, 5 serving.
     pub fn state(&mut self) -> Result<u64, Fault>
         ensures { Acts N.board.places self.old Act.State result self.new }
     {
@@ -190,7 +191,7 @@ impl<N: Name> Party<N> {
         Ok(code_of(runner.state()))
     }
 
-    /// After a poll that stopped: the number of the operation that is to be served now, 0 where the thread goes on.
+    /// Continues after a poll that stopped. Returns the number of the operation to serve, 0 if the thread continues.
     pub fn stop_next(&mut self) -> Result<u64, Fault>
         ensures { Acts N.board.places self.old Act.StopNext result self.new }
     {
@@ -200,7 +201,7 @@ impl<N: Name> Party<N> {
         crossing::stop_next(&self.system, runner)
     }
 
-    /// The operation is served: what its job answered is entered, and the thread polls: the number of the poll, 0 to go on.
+    /// Ends the serving: enters the job's reply and polls. Returns the poll's number.
     pub fn stop_serve(&mut self) -> Result<u64, Fault>
         ensures { Acts N.board.places self.old Act.StopServe result self.new }
     {
@@ -211,7 +212,7 @@ impl<N: Name> Party<N> {
         Ok(number)
     }
 
-    /// The party becomes a thread in the least vacant place: its name.
+    /// Makes the client a thread in the least vacant place. Returns its name.
     pub fn start(&mut self) -> Result<u64, Fault>
         ensures { Acts N.board.places self.old Act.Start result self.new }
     {
@@ -261,7 +262,8 @@ impl<N: Name> Party<N> {
         }
     }
 
-    /// The thread ends: 0. Where something is told to it it polls, and the number of the poll is answered.
+    /// Ends the thread and returns 0. If an operation is pending for it, it polls instead, and the poll's number is
+    /// returned.
     pub fn exit(&mut self) -> Result<u64, Fault>
         ensures { Acts N.board.places self.old Act.Exit result self.new }
     {

@@ -1,4 +1,4 @@
-//! What the parties share.
+//! The system that parties share.
 ghost use Rattle.std.specs.Prelude.{◌≡◌, ◌<◌, IfOk, IfSome, length};
 ghost use Rattle.poll.specs.Rows.{full_armer};
 ghost use Rattle.thread_list.specs.Sharing.{places_in};
@@ -17,7 +17,7 @@ use std::marker::Model;
 use std::snapshot::Snapshot;
 use thread_list::{Hints, Parts, Pieces};
 
-/// A room under a lock of its own. Contracts see of which place it is.
+/// A room under its own lock. Contracts see its place.
 #[derive(Drop)]
 struct LockedRoom<N: Name> {
     place: Snapshot<usize>,
@@ -45,8 +45,8 @@ impl<N: Name> LockedRoom<N> {
     }
 }
 
-/// The words, the desk under a lock, and a room for each place in order, each under a lock of its own. Contracts see how many methods there
-/// are.
+/// The words, the desk under a lock, and a room for each place in order, each under its own lock. Contracts see the
+/// number of methods.
 #[derive(Drop)]
 pub struct SharedSystem<N: Name> {
     board: Board,
@@ -70,7 +70,7 @@ impl<N: Name> Model for SharedSystem<N> {
         × (s.hints.slots ≡ N.board.slots) };
 }
 
-// A lock round each room, in order.
+// Puts a lock around each room, in order.
 fn locked_rooms<N: Name>(
     alloc: Global,
     rooms: Vec<Room<N, Query>>,
@@ -88,7 +88,7 @@ fn locked_rooms<N: Name>(
 }
 
 impl<N: Name> SharedSystem<N> {
-    /// A system over these parts, and the armer of its poll words.
+    /// Makes a system of these parts, and the armer of its poll words. Refused only if memory is refused.
     pub fn new(alloc: Global, parts: Parts) -> Result<(SharedSystem<N>, Armer), AllocError>
         requires tables { (parts.board ≡ N.board) × (parts.row ≡ N.poll_row) }
         ensures armer { IfOk result (λ r. r.1 ≡ full_armer N.poll_row N.board.places) }
@@ -134,7 +134,7 @@ impl<N: Name> SharedSystem<N> {
         &self.row
     }
 
-    /// How many places there are.
+    /// Returns the number of places.
     pub fn places(&self) -> usize
         ensures { result ≡ N.board.places }
     {
@@ -159,13 +159,13 @@ impl<N: Name> SharedSystem<N> {
         self.hints.set(method, code);
     }
 
-    /// The desk, where nobody has it.
+    /// Returns the desk, unless its lock is taken.
     #[inline(always)]
     pub fn try_desk(&self) -> Option<Guard<'_, Box<Desk<N, Query>>>> {
         self.desk.try_lock()
     }
 
-    /// The room of a place, where nobody has it.
+    /// Returns the room of a place, unless its lock is taken.
     #[inline(always)]
     pub fn try_room(&self, place: usize) -> Option<Guard<'_, Box<Room<N, Query>>>>
         requires { place < N.board.places }

@@ -1,4 +1,4 @@
-//! A value under a lock that is only tried: who finds it taken is told so at once. Nothing waits.
+//! A value under a lock that is only tried: a thread that finds it taken is refused at once. Nothing waits.
 ghost use Rattle.std.specs.Prelude.{◌≡◌, ◌<◌, ◌∷◌, [], Some, None};
 
 use crate::lock_rule::{FREE, LockLaw, PutsBack, TAKEN, Tries, WORD, WORDS};
@@ -6,7 +6,7 @@ use atomic_table::{Seat, Table};
 use std::alloc::{AllocError, Global};
 use std::marker::Model;
 
-/// A value that one thread at a time has. Contracts see which lock it is.
+/// A value for one thread at a time. Contracts see which lock it is.
 #[derive(Drop)]
 pub struct TriedLock<T: Drop> {
     table: Table<Option<T>, (), (), LockLaw, Global>,
@@ -24,7 +24,7 @@ impl<T: Drop> Model for TriedLock<T> {
         × (l.table.shared.table_id.slots ≡ 1) };
 }
 
-/// Has the value of a lock, and puts it back where it is dropped.
+/// Has the value of a lock, and puts it back when it is dropped.
 pub struct Guard<'m, T: Drop> {
     lock: &'m TriedLock<T>,
     key: Key<T>,
@@ -32,7 +32,7 @@ pub struct Guard<'m, T: Drop> {
     ghost is_of: { key ≡ lock.now },
 }
 
-// The right to put a value into the slot of its lock, which is empty.
+// The right to put a value into the empty slot of its lock.
 struct Key<T> {
     seat: Seat<Option<T>, ()>,
 }
@@ -49,7 +49,7 @@ impl<T> Model for Key<T> {
 }
 
 impl<T: Drop> TriedLock<T> {
-    /// A lock that is free. The error is that memory was refused; nothing else takes memory.
+    /// Makes a free lock. Refused only if memory is refused. Nothing else allocates.
     pub fn new(alloc: Global, value: T) -> Result<TriedLock<T>, AllocError> {
         let words = vec![in alloc; FREE; WORDS]?;
         let mut slots = Vec::with_capacity(alloc, 1)?;
@@ -60,7 +60,7 @@ impl<T: Drop> TriedLock<T> {
         }
     }
 
-    /// The value, where no other thread has it: one swap, and one store where it is put back.
+    /// Returns the value, unless another thread has it. Costs one swap, and one store when the value is put back.
     #[inline(always)]
     pub fn try_lock(&self) -> Option<Guard<'_, T>> {
         let (found, seat) = self.table.shared.swap_new_seat::<Tries>(WORD, TAKEN);

@@ -1,4 +1,4 @@
-//! What a party is told of a code that was weighed.
+//! The result of a weighing, for a party.
 ghost use Rattle.std.specs.Prelude.{◌≡◌};
 ghost use Rattle.parties.specs.Weighed.{told_of};
 
@@ -6,7 +6,7 @@ use crate::acts::Fault;
 use bodies::Name;
 use coordinator_core::Reclaimed;
 
-/// 0 where the code was freed, or how many activations stand, or which place is late.
+/// 0 if the code was freed, otherwise how many activations it has, or the late place.
 pub(crate) fn told_of<N: Name>(reclaimed: Reclaimed<N>) -> Result<u64, Fault>
     ensures { result ≡ told_of reclaimed }
 {

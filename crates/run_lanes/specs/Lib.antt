@@ -6,3 +6,4 @@ pub mod Codes
 pub mod Served
 pub mod Requests
 pub mod Lanes
+pub mod Widening

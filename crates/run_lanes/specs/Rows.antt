@@ -1,10 +1,11 @@
 -- Rows of lanes.
-use Rattle.std.specs.Prelude.{ℕ, suc, List, [], ◌∷◌, ◌++◌, ◌-◌, ◌==◌, ◌&&◌, Bool, Option, None, Some, is_some, is_none, nat_le, length, replicate, unwrap_or}
+use Rattle.std.specs.Prelude.{ℕ, List, [], ◌∷◌, ◌-◌, ◌==◌, ◌&&◌, Bool, Option, None, Some, is_some, is_none, nat_le, length, unwrap_or}
 use Rattle.std.specs.List.{position}
 use Rattle.run_lanes.specs.declared.looks.Lane.{Lane}
 use Rattle.run_lanes.specs.declared.looks.Paint.{Paint}
 use Rattle.run_lanes.specs.declared.painted.Span.{Span}
 use Rattle.run_lanes.specs.declared.rows.Row.{Row}
+use Rattle.run_lanes.specs.Widening.{widened}
 
 -- Whether a row shows the thread, operation or code of this number.
 abbrev pub shows : Row → ℕ → Bool
@@ -23,7 +24,7 @@ blank = record { number = 0; paint = None; since = 0; begun = 0 }
 
 -- The rows, extended with blank ones so that this row exists.
 abbrev pub wide : ℕ → List Row → List Row
-wide row rows = rows ++ replicate (suc row - length rows) blank
+wide row rows = widened blank row rows
 
 -- The bar of a row, which ends before this line.
 abbrev pub bar_in : Lane → ℕ → ℕ → Option Paint → List Span

@@ -1,6 +1,7 @@
 -- The progress of threads with the open operations.
-use Rattle.std.specs.Prelude.{ℕ, suc, List, ◌++◌, ◌-◌, unwrap_or, length, replicate, slice_get}
+use Rattle.std.specs.Prelude.{ℕ, List, unwrap_or, slice_get}
 use Rattle.run_lanes.specs.declared.served.Served.{Served}
+use Rattle.run_lanes.specs.Widening.{widened}
 
 abbrev pub fresh : Served
 fresh = record { told = 0; done = 0; cleared = 0 }
@@ -11,4 +12,4 @@ served_at places place = unwrap_or (slice_get places place) fresh
 
 -- The places, extended with fresh ones so that this place exists.
 abbrev pub wide : ℕ → List Served → List Served
-wide place places = places ++ replicate (suc place - length places) fresh
+wide place places = widened fresh place places

@@ -12,3 +12,4 @@ mod rows;
 mod served;
 pub mod subject;
 mod threads;
+mod widening;

@@ -7,6 +7,7 @@ ghost use Rattle.run_lanes.specs.Rows.{shows, is_vacant, vacant_row, wide, bar_i
 
 use crate::looks::{Group, Lane, Paint};
 use crate::painted::{Painted, Span};
+use crate::widening::widen;
 use std::alloc::{AllocError, Global};
 
 /// The least distance, in lines, between the beginnings of two names on one row, so that names have room.
@@ -142,17 +143,14 @@ impl Rows {
             ++ flat_map (drawn_span painted.old.first) (bar_in
             (record { group = self.old.group; row = row }) kept.since at kept.paint)) }
     {
-        widen(&mut self.rows, row)?;
-        let lane = self.lane(row);
-        let Some(kept) = self.rows.get_mut(row) else {
-            return Ok(());
+        widen(&mut self.rows, row, BLANK)?;
+        let shown = Row {
+            number,
+            paint: Some(paint),
+            since: at,
+            begun: at,
         };
-        let before = *kept;
-        kept.number = number;
-        kept.paint = Some(paint);
-        kept.since = at;
-        kept.begun = at;
-        end_bar(painted, lane, before, at)
+        self.replace(painted, row, shown, at)
     }
 
     /// From this line on the row has this colour, or shows nothing. Its bar before the line becomes a span.
@@ -182,17 +180,47 @@ impl Rows {
             ++ flat_map (drawn_span painted.old.first) (bar_in
             (record { group = self.old.group; row = row }) kept.since at kept.paint)) }
     {
-        widen(&mut self.rows, row)?;
-        let lane = self.lane(row);
-        let Some(kept) = self.rows.get_mut(row) else {
+        widen(&mut self.rows, row, BLANK)?;
+        let Some(kept) = self.rows.get(row) else {
             return Ok(());
         };
         if kept.paint == paint {
             return Ok(());
         }
+        let shown = Row {
+            paint,
+            since: at,
+            ..*kept
+        };
+        self.replace(painted, row, shown, at)
+    }
+
+    // Shows this in an existing row from this line on. The bar of what the row showed before becomes a span.
+    fn replace(
+        &mut self,
+        painted: &mut Painted,
+        row: usize,
+        shown: Row,
+        at: u64,
+    ) -> Result<(), AllocError>
+        ensures group { self.new.group ≡ self.old.group }
+        ensures first { painted.new.first ≡ painted.old.first }
+        ensures lives { painted.new.lives.items ≡ painted.old.lives.items }
+        ensures shown { OnOk result ((kept : RowOf)
+            → slice_get self.old.rows.items row ≡ Some kept
+            → self.new.rows.items ≡ slice_set self.old.rows.items row shown) }
+        ensures bar { OnOk result ((kept : RowOf)
+            → slice_get self.old.rows.items row ≡ Some kept
+            → painted.new.spans.items ≡ painted.old.spans.items
+            ++ flat_map (drawn_span painted.old.first) (bar_in
+            (record { group = self.old.group; row = row }) kept.since at kept.paint)) }
+    {
+        let lane = self.lane(row);
+        let Some(kept) = self.rows.get_mut(row) else {
+            return Ok(());
+        };
         let before = *kept;
-        kept.paint = paint;
-        kept.since = at;
+        *kept = shown;
         end_bar(painted, lane, before, at)
     }
 
@@ -204,19 +232,6 @@ impl Rows {
             self.turn(painted, row, None, at)?;
         }
         Ok(())
-    }
-}
-
-// Extends the rows so that this row exists.
-fn widen(rows: &mut Vec<Row>, row: usize) -> Result<(), AllocError>
-    ensures { OnOk result (rows.new.items ≡ wide row rows.old.items) }
-{
-    if row < rows.len() {
-        return Ok(());
-    }
-    match row.checked_add(1) {
-        Some(all) => rows.resize(all, BLANK),
-        None => Err(AllocError),
     }
 }
 

@@ -4,6 +4,7 @@ ghost use Rattle.std.specs.Prelude.{◌≡◌, ℕ, [], Some, OnOk, slice_get, s
 ghost use Rattle.run_lanes.specs.declared.served.Served.{Served as ServedOf};
 ghost use Rattle.run_lanes.specs.Served.{fresh, served_at, wide};
 
+use crate::widening::widen;
 use std::alloc::{AllocError, Global};
 
 /// For one thread the greatest numbers of the operations that were told to it (a Tell armed its poll), whose callback ran, and that were
@@ -52,7 +53,7 @@ impl AllServed {
             → slice_get (wide place self.old.places.items) place ≡ Some kept
             → self.new.places.items ≡ slice_set (wide place self.old.places.items) place fresh) }
     {
-        widen(&mut self.places, place)?;
+        widen(&mut self.places, place, FRESH)?;
         self.set(place, FRESH);
         Ok(())
     }
@@ -65,18 +66,5 @@ impl AllServed {
         if let Some(kept) = self.places.get_mut(place) {
             *kept = served;
         }
-    }
-}
-
-// Extends the places so that this place exists.
-fn widen(places: &mut Vec<Served>, place: usize) -> Result<(), AllocError>
-    ensures { OnOk result (places.new.items ≡ wide place places.old.items) }
-{
-    if place < places.len() {
-        return Ok(());
-    }
-    match place.checked_add(1) {
-        Some(all) => places.resize(all, FRESH),
-        None => Err(AllocError),
     }
 }

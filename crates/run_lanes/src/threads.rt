@@ -9,6 +9,7 @@ ghost use Rattle.run_lanes.specs.Threads.{state_after, depth_after};
 use crate::looks::{Group, Lane, Paint};
 use crate::painted::{Name, Painted};
 use crate::rows::Rows;
+use crate::widening::widen;
 use std::alloc::{AllocError, Global};
 use system::answers::Answer;
 use system::events::Act;
@@ -115,9 +116,7 @@ impl Threads {
         ensures lane { IfOk result
             (λ lane. lane ≡ record { group = self.old.threads.group; row = place }) }
     {
-        if self.places.len() <= place {
-            self.places.resize(place.saturating_add(1), NONE)?;
-        }
+        widen(&mut self.places, place, NONE)?;
         if let Some(thread) = self.places.get_mut(place) {
             thread.state = State::New;
         }

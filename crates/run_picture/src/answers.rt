@@ -1,7 +1,6 @@
 // The text of each line with its answer, below the lanes; and the stack depths below the bars of threads.
-use crate::layout::Layout;
+use crate::canvas::Canvas;
 use crate::marks::Mark;
-use crate::painting::put;
 use run_lanes::looks::Group;
 use std::alloc::{AllocError, Global};
 
@@ -46,14 +45,14 @@ fn measured(text: &[u8]) -> (u64, usize) {
     (letters, text.len())
 }
 
-fn put_cut(text: &mut Vec<u8>, piece: &[u8]) -> Result<(), AllocError> {
+fn put_cut(canvas: &mut Canvas, piece: &[u8]) -> Result<(), AllocError> {
     let (_, end) = measured(piece);
     match piece.get(..end) {
-        Some(shown) => text.extend_from_slice(shown)?,
-        None => text.extend_from_slice(piece)?,
+        Some(shown) => canvas.text.extend_from_slice(shown)?,
+        None => canvas.text.extend_from_slice(piece)?,
     }
     if end < piece.len() {
-        put(text, "..")?;
+        canvas.put("..")?;
     }
     Ok(())
 }
@@ -70,38 +69,26 @@ pub fn longest(marks: &[Mark]) -> u64 {
     most
 }
 
-fn put_text(
-    alloc: Global,
-    text: &mut Vec<u8>,
-    mark: &Mark,
-    x: u64,
-    y: u64,
-) -> Result<(), AllocError> {
-    let outcome = mark.outcome;
-    let piece = format!(in alloc;
+fn put_text(canvas: &mut Canvas, mark: &Mark, x: u64, y: u64) -> Result<(), AllocError> {
+    let outcome = mark.outcome.class();
+    canvas.put_made(format!(in canvas.alloc;
         "<text class='line {outcome}' transform='translate({x} {y}) rotate(60)'>"
-    )?;
-    put(text, piece.as_str())?;
+    )?)?;
     let (line, answer) = parts_of(&mark.title);
-    put_cut(text, line)?;
-    put(text, " <tspan class='answer'>")?;
-    put_cut(text, answer)?;
-    put(text, "</tspan></text>\n")
+    put_cut(canvas, line)?;
+    canvas.put(" <tspan class='answer'>")?;
+    put_cut(canvas, answer)?;
+    canvas.put("</tspan></text>\n")
 }
 
 /// Writes the lines with their answers below their marks, where the text before leaves room.
-pub fn put_texts(
-    alloc: Global,
-    text: &mut Vec<u8>,
-    layout: &Layout,
-    marks: &[Mark],
-) -> Result<(), AllocError> {
-    let y = layout.bottom().saturating_add(8);
+pub fn put_texts(canvas: &mut Canvas, marks: &[Mark]) -> Result<(), AllocError> {
+    let y = canvas.layout.bottom().saturating_add(8);
     let mut free = 0u64;
     for mark in marks {
-        let x = layout.x(mark.line).saturating_sub(3);
+        let x = canvas.layout.x(mark.line).saturating_sub(3);
         if free <= x {
-            put_text(alloc, text, mark, x, y)?;
+            put_text(canvas, mark, x, y)?;
             free = x.saturating_add(APART);
         }
     }
@@ -146,31 +133,22 @@ impl Free {
     }
 }
 
-fn put_depth(
-    alloc: Global,
-    text: &mut Vec<u8>,
-    layout: &Layout,
-    mark: &Mark,
-    depth: u32,
-) -> Result<(), AllocError> {
-    let x = layout.x(mark.line).saturating_add(3);
-    let y = layout.y(mark.spot.lane).saturating_add(46);
-    let piece = format!(in alloc; "<text class='depth' x='{x}' y='{y}'>{depth}</text>\n")?;
-    put(text, piece.as_str())
+fn put_depth(canvas: &mut Canvas, mark: &Mark, depth: u32) -> Result<(), AllocError> {
+    let x = canvas.layout.x(mark.line).saturating_add(3);
+    let y = canvas.layout.y(mark.spot.lane).saturating_add(46);
+    canvas.put_made(format!(in canvas.alloc;
+        "<text class='depth' x='{x}' y='{y}'>{depth}</text>\n"
+    )?)
 }
 
 /// Writes the number of frames below the bar of a thread, where a line changes it and there is room.
-pub fn put_depths(
-    alloc: Global,
-    text: &mut Vec<u8>,
-    layout: &Layout,
-    marks: &[Mark],
-) -> Result<(), AllocError> {
-    let mut free = Free::new(alloc, layout.extent.lanes(Group::Places))?;
+pub fn put_depths(canvas: &mut Canvas, marks: &[Mark]) -> Result<(), AllocError> {
+    let mut free = Free::new(canvas.alloc, canvas.layout.extent.lanes(Group::Places))?;
     for mark in marks {
         if let Some(depth) = mark.spot.depth {
-            if free.take(mark.spot.lane.row, layout.x(mark.line), width(depth)) {
-                put_depth(alloc, text, layout, mark, depth)?;
+            let x = canvas.layout.x(mark.line);
+            if free.take(mark.spot.lane.row, x, width(depth)) {
+                put_depth(canvas, mark, depth)?;
             }
         }
     }

@@ -1,6 +1,7 @@
 // Why the program ends with a status other than 0.
 ghost use Rattle.std.specs.Prelude.{◌≡◌, Some};
-ghost use Rattle.run_picture.specs.Faults.{fault_text, status_of, of_replay};
+ghost use Rattle.run_picture.specs.declared.fault.Fault.TheVariants as faults;
+ghost use Rattle.run_picture.specs.Faults.{fault_text, status_of};
 
 use replay::stream::ReplayFault;
 use std::fmt;
@@ -9,9 +10,8 @@ use std::fmt;
 #[derive(Clone, Copy, Drop)]
 pub enum Fault {
     BadWords,
-    ReadFailed,
-    WriteFailed,
-    NoMemory,
+    /// Not all was read or written, or memory was refused.
+    Failed(ReplayFault),
 }
 
 impl Fault {
@@ -21,7 +21,7 @@ impl Fault {
     {
         match self {
             Fault::BadWords => 2,
-            Fault::ReadFailed | Fault::WriteFailed | Fault::NoMemory => 1,
+            Fault::Failed(_) => 1,
         }
     }
 }
@@ -30,23 +30,19 @@ impl fmt::Display for Fault {
     ghost output = { λ fault. Some (fault_text fault) };
 
     fn fmt<W: fmt::Write>(&self, f: &mut fmt::Formatter<W>) -> fmt::Result {
-        match self {
-            Fault::BadWords => write!(f, "bad words"),
-            Fault::ReadFailed => write!(f, "read failed"),
-            Fault::WriteFailed => write!(f, "write failed"),
-            Fault::NoMemory => write!(f, "no memory"),
-        }
+        f.write_str(match self {
+            Fault::BadWords => "bad words",
+            Fault::Failed(ReplayFault::ReadFailed) => "read failed",
+            Fault::Failed(ReplayFault::WriteFailed) => "write failed",
+            Fault::Failed(ReplayFault::NoMemory) => "no memory",
+        })
     }
 }
 
 impl From<ReplayFault> for Fault {
-    ghost from_gives = { λ fault made. made ≡ of_replay fault };
+    ghost from_gives = { λ fault made. made ≡ faults.Failed fault };
 
     fn from(fault: ReplayFault) -> Fault {
-        match fault {
-            ReplayFault::ReadFailed => Fault::ReadFailed,
-            ReplayFault::WriteFailed => Fault::WriteFailed,
-            ReplayFault::NoMemory => Fault::NoMemory,
-        }
+        Fault::Failed(fault)
     }
 }

@@ -4,6 +4,7 @@
 #![tactic(auto)]
 
 mod answers;
+mod canvas;
 mod drawing;
 mod fault;
 mod layout;
@@ -17,6 +18,7 @@ mod picture;
 mod reading;
 mod run;
 mod shapes;
+mod style;
 mod words;
 
 pub use fault::Fault;

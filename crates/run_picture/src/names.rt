@@ -1,6 +1,6 @@
 // The names of threads, operations and codes, written on their lanes where there is room.
+use crate::canvas::Canvas;
 use crate::layout::Layout;
-use crate::painting::put;
 use operations::Request;
 use run_lanes::looks::{Group, Lane};
 use run_lanes::painted::{Life, Name};
@@ -103,21 +103,15 @@ fn chosen(label: &Label, room: u64) -> &str {
     }
 }
 
-fn put_label(
-    alloc: Global,
-    text: &mut Vec<u8>,
-    layout: &Layout,
-    lane: Lane,
-    line: u64,
-    name: &str,
-) -> Result<(), AllocError> {
+fn put_label(canvas: &mut Canvas, lane: Lane, line: u64, name: &str) -> Result<(), AllocError> {
     if name.is_empty() {
         return Ok(());
     }
-    let x = layout.x(line);
-    let y = layout.y(lane).saturating_add(9);
-    let piece = format!(in alloc; "<text class='label' x='{x}' y='{y}'>{name}</text>\n")?;
-    put(text, piece.as_str())
+    let x = canvas.layout.x(line);
+    let y = canvas.layout.y(lane).saturating_add(9);
+    canvas.put_made(format!(in canvas.alloc;
+        "<text class='label' x='{x}' y='{y}'>{name}</text>\n"
+    )?)
 }
 
 /// For each lane of a group the first line at which another name begins, while lives are visited from the last to the first.
@@ -180,34 +174,24 @@ fn room(layout: &Layout, line: u64, next: u64) -> u64 {
 }
 
 // Writes the name of a life where it begins, and again in each later panel.
-fn put_life(
-    alloc: Global,
-    text: &mut Vec<u8>,
-    layout: &Layout,
-    life: &Life,
-    next: u64,
-) -> Result<(), AllocError> {
-    let label = label_of(alloc, &life.name)?;
+fn put_life(canvas: &mut Canvas, life: &Life, next: u64) -> Result<(), AllocError> {
+    let layout = canvas.layout;
+    let label = label_of(canvas.alloc, &life.name)?;
     let last = layout.panel(life.to.saturating_sub(1));
     for panel in layout.panel(life.from)..last.saturating_add(1) {
         let line = life.from.max(layout.first_of(panel));
-        let name = chosen(&label, room(layout, line, next));
-        put_label(alloc, text, layout, life.lane, line, name)?;
+        let name = chosen(&label, room(&layout, line, next));
+        put_label(canvas, life.lane, line, name)?;
     }
     Ok(())
 }
 
 /// Writes the names of threads, operations and codes where they begin, and again in each later panel.
-pub fn put_lives(
-    alloc: Global,
-    text: &mut Vec<u8>,
-    layout: &Layout,
-    lives: &[Life],
-) -> Result<(), AllocError> {
-    let mut next = Next::new(alloc, layout)?;
+pub fn put_lives(canvas: &mut Canvas, lives: &[Life]) -> Result<(), AllocError> {
+    let mut next = Next::new(canvas.alloc, &canvas.layout)?;
     for life in lives.iter().rev() {
         let line = next.replace(life.lane, life.from);
-        put_life(alloc, text, layout, life, line)?;
+        put_life(canvas, life, line)?;
     }
     Ok(())
 }

@@ -1,11 +1,10 @@
 // The outcomes of lines, and the shapes of their marks: one for each kind of answer.
-ghost use Rattle.std.specs.Prelude.{◌≡◌, Some};
+ghost use Rattle.std.specs.Prelude.{◌≡◌};
 ghost use Rattle.run_picture.specs.Drawn.{outcome_text, shape_text};
 ghost use Rattle.run_picture.specs.Marks.{deed_of, deed_of_event, deed_of_act, outcome_of, shape_of, shape_of_answer, done_shape, go_shape};
 
 use replay::engine::Reply;
 use replay::grammar::Command;
-use std::fmt;
 use system::answers::Answer;
 use system::events::{Act, Event};
 
@@ -18,14 +17,15 @@ pub enum Outcome {
     Accepted,
 }
 
-impl fmt::Display for Outcome {
-    ghost output = { λ outcome. Some (outcome_text outcome) };
-
-    fn fmt<W: fmt::Write>(&self, f: &mut fmt::Formatter<W>) -> fmt::Result {
+impl Outcome {
+    /// The class of this outcome in the style sheet.
+    pub fn class(self) -> &'static str
+        ensures { result.now ≡ outcome_text self }
+    {
         match self {
-            Outcome::Bad => write!(f, "bad"),
-            Outcome::Refused => write!(f, "refused"),
-            Outcome::Accepted => write!(f, "accepted"),
+            Outcome::Bad => "bad",
+            Outcome::Refused => "refused",
+            Outcome::Accepted => "accepted",
         }
     }
 }
@@ -65,41 +65,42 @@ pub enum Shape {
     State,
 }
 
-impl fmt::Display for Shape {
-    ghost output = { λ shape. Some (shape_text shape) };
-
-    fn fmt<W: fmt::Write>(&self, f: &mut fmt::Formatter<W>) -> fmt::Result {
+impl Shape {
+    /// The name of this shape: the class of its marks, and what the list of shapes calls it.
+    pub fn name(self) -> &'static str
+        ensures { result.now ≡ shape_text self }
+    {
         match self {
-            Shape::BadLine => write!(f, "badline"),
-            Shape::Refusal => write!(f, "refusal"),
-            Shape::Step => write!(f, "step"),
-            Shape::Cleared => write!(f, "cleared"),
-            Shape::Started => write!(f, "started"),
-            Shape::Exited => write!(f, "exited"),
-            Shape::Change => write!(f, "change"),
-            Shape::NoChange => write!(f, "nochange"),
-            Shape::Go => write!(f, "go"),
-            Shape::Left => write!(f, "left"),
-            Shape::Stop => write!(f, "stop"),
-            Shape::Entered => write!(f, "entered"),
-            Shape::WrongMethod => write!(f, "wrongmethod"),
-            Shape::Callback => write!(f, "callback"),
-            Shape::Stack => write!(f, "stack"),
-            Shape::Code => write!(f, "code"),
-            Shape::NoCode => write!(f, "nocode"),
-            Shape::Covered => write!(f, "covered"),
-            Shape::Late => write!(f, "late"),
-            Shape::NotLooked => write!(f, "notlooked"),
-            Shape::Used => write!(f, "used"),
-            Shape::Retired => write!(f, "retired"),
-            Shape::Asked => write!(f, "asked"),
-            Shape::Opened => write!(f, "opened"),
-            Shape::Closed => write!(f, "closed"),
-            Shape::Told => write!(f, "told"),
-            Shape::Gone => write!(f, "gone"),
-            Shape::Counted => write!(f, "counted"),
-            Shape::Count => write!(f, "count"),
-            Shape::State => write!(f, "state"),
+            Shape::BadLine => "badline",
+            Shape::Refusal => "refusal",
+            Shape::Step => "step",
+            Shape::Cleared => "cleared",
+            Shape::Started => "started",
+            Shape::Exited => "exited",
+            Shape::Change => "change",
+            Shape::NoChange => "nochange",
+            Shape::Go => "go",
+            Shape::Left => "left",
+            Shape::Stop => "stop",
+            Shape::Entered => "entered",
+            Shape::WrongMethod => "wrongmethod",
+            Shape::Callback => "callback",
+            Shape::Stack => "stack",
+            Shape::Code => "code",
+            Shape::NoCode => "nocode",
+            Shape::Covered => "covered",
+            Shape::Late => "late",
+            Shape::NotLooked => "notlooked",
+            Shape::Used => "used",
+            Shape::Retired => "retired",
+            Shape::Asked => "asked",
+            Shape::Opened => "opened",
+            Shape::Closed => "closed",
+            Shape::Told => "told",
+            Shape::Gone => "gone",
+            Shape::Counted => "counted",
+            Shape::Count => "count",
+            Shape::State => "state",
         }
     }
 }

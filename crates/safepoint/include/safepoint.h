@@ -76,6 +76,7 @@
                                          back      0
    sp_stop_serve        thread  serving  back      0, polls          AGAIN
    sp_target            any     -        -         0                 NO_MEMORY
+   sp_target_all        any     -        -         0                 -
    sp_submit            any     -        -         a number          BAD_ASK AGAIN SPENT QUEUE_FULL
                                                                      NO_TARGETS BAD_TARGETS
                                                                      HISTORY_FULL NO_MEMORY
@@ -84,12 +85,14 @@
    sp_install           any     -        -         a serial          AGAIN NO_SUCH_METHOD TABLE_FULL
                                                                      SPENT HISTORY_FULL NO_MEMORY
    sp_invalidate        any     -        -         0                 AGAIN UNKNOWN NOT_IN_USE
-   sp_reply             any     -        -         the reply         AGAIN NOT_ANSWERED NO_MEMORY
+   sp_reply             any     -        -         the reply         AGAIN PENDING NOT_ANSWERED
+                                                                     NO_MEMORY
    sp_live_after        any     -        -         a name, or 0      AGAIN
    sp_open_kind         any     -        -         a kind            AGAIN
+   sp_pending           any     -        -         a number, or 0    AGAIN
    sp_forget            any     -        -         0                 AGAIN
-   sp_advance           coord.  -        -         a number          RUN AWAITS AGAIN QUEUE_EMPTY
-                                                                     NO_MEMORY
+   sp_advance           coord.  -        -         a number          RUN AT_SAFEPOINT AWAITS AGAIN
+                                                                     QUEUE_EMPTY NO_MEMORY
    sp_called_operation  any     -        -         an operation or 0 -
    sp_called_place      any     -        -         a place           -
    sp_awaited           any     -        -         how many          -
@@ -147,8 +150,8 @@ enum {
     SP_VACANT = -25, SP_NO_SUCH_PLACE = -26, SP_NOT_DONE = -27, SP_TABLE_FULL = -28,
     SP_UNKNOWN = -29, SP_NOT_IN_USE = -30, SP_NOT_SAFE = -31, SP_NOT_ALL_HELD = -32,
     SP_NOT_ANSWERED = -33, SP_STILL_IN_USE = -34, SP_NOT_WEIGHED = -35, SP_LATE = -36,
-    SP_RUN = -37, SP_AWAITS = -38,
-    SP_MADE = -40, SP_BAD_SIZE = -41, SP_BAD_ASK = -42
+    SP_RUN = -37, SP_AWAITS = -38, SP_AT_SAFEPOINT = -39,
+    SP_MADE = -40, SP_BAD_SIZE = -41, SP_BAD_ASK = -42, SP_PENDING = -43
 };
 
 enum {
@@ -216,6 +219,9 @@ int64_t sp_stop_serve(struct sp_party *thread);
    SP_BAD_TARGETS: a name twice, or more than 64. SP_BAD_ASK: `asks` isn't SP_DEPTH, SP_COUNT_OF or
    SP_TOP. sp_census queues a census of all threads, and returns its number. */
 int64_t sp_target(struct sp_party *party, uint64_t name);
+/* The targets of the party's next request are all threads that live when it is submitted, in place of
+   names. */
+int64_t sp_target_all(struct sp_party *party);
 int64_t sp_submit(struct sp_party *party, uint32_t asks, uint64_t serial);
 int64_t sp_census(struct sp_party *party);
 /* sp_install installs a new code for the method, and returns its serial. From then on no thread
@@ -224,13 +230,16 @@ int64_t sp_census(struct sp_party *party);
    serial, or it is freed. SP_NOT_IN_USE: it is out of use already. */
 int64_t sp_install(struct sp_party *party, uint32_t method);
 int64_t sp_invalidate(struct sp_party *party, uint64_t serial);
-/* sp_reply returns what the name answered in an operation. SP_NOT_ANSWERED: it hasn't yet, it exited
-   before, it was no target, or the reply is forgotten. sp_live_after returns the least live name
-   above this one, or 0 for none. sp_open_kind returns of which kind the open requests are:
-   SP_HANDSHAKE or SP_CENSUS, or SP_NONE if nothing is open. */
+/* sp_reply returns what the name answered in an operation. SP_PENDING: it hasn't yet, and the
+   operation, or one before it, isn't closed. SP_NOT_ANSWERED: it exited before, it was no target, or
+   the reply is forgotten. sp_live_after returns the least live name above this one, or 0 for none.
+   sp_open_kind returns of which kind the open requests are: SP_HANDSHAKE or SP_CENSUS, or SP_NONE if
+   nothing is open. sp_pending returns the least number of a request that is open or waits, or 0 for
+   none: all requests below it are closed. */
 int64_t sp_reply(struct sp_party *party, uint64_t operation, uint64_t name);
 int64_t sp_live_after(struct sp_party *party, uint64_t name);
 int64_t sp_open_kind(struct sp_party *party);
+int64_t sp_pending(struct sp_party *party);
 /* Forgets all entries so far, and the replies of all operations before the first one that is open or
    waits. A history of a million entries is full: SP_HISTORY_FULL. */
 int64_t sp_forget(struct sp_party *party);
@@ -244,6 +253,9 @@ int64_t sp_forget(struct sp_party *party);
    SP_RUN     it holds a thread, and serves it next. The caller runs its callback now, for the
               operation sp_called_operation and the thread of the place sp_called_place. The next
               sp_advance enters the thread's reply, and lets it go unless it owes another operation
+   SP_AT_SAFEPOINT  all live threads are held, and the census sp_called_operation is operated. The
+              caller runs its VM operation now: no stack changes. The next sp_advance lets the
+              threads go. It comes once for a census, and not where sp_operate operated it
    SP_AWAITS  sp_awaited threads of the request have still to come. They come by themselves
    SP_AGAIN   a lock is taken, a thread is starting or exiting, or there is more to arm
 
@@ -251,15 +263,17 @@ int64_t sp_forget(struct sp_party *party);
    and nothing waits. SP_NO_MEMORY: for a list; the request may be open, and a census keeps the
    threads that it holds, until a later call goes on.
 
-   The other three tell about the last sp_advance. sp_called_operation returns the operation's
-   number, or 0 if no thread is served next; sp_called_place its thread's place, from 0 on; sp_awaited
-   a number up to 64. To any party but the coordinator they return 0.
+   The other three tell about the last sp_advance. sp_called_operation returns the number
+   of the operation for which the caller runs something now, or 0; sp_called_place the place of the
+   thread that is served next, from 0 on; sp_awaited a number up to 64. To any party but the coordinator they return 0.
 
        int64_t drive(struct sp_party *coordinator) {
            for (;;) {
                int64_t answer = sp_advance(coordinator);
                if (answer == SP_RUN)
                    callback(sp_called_operation(coordinator), sp_called_place(coordinator));
+               else if (answer == SP_AT_SAFEPOINT)
+                   vm_operation(sp_called_operation(coordinator));
                else if (answer == SP_AWAITS || answer == SP_AGAIN)
                    sched_yield();
                else

@@ -83,6 +83,11 @@ public:
         for (auto name : names) must(sp_target(&party_, name));
         return wait([&] { return sp_submit(&party_, asks, serial); });
     }
+    /* The same of all threads that live when it is submitted. */
+    std::uint64_t submit_to_all(std::uint32_t asks = SP_DEPTH, std::uint64_t serial = 0) {
+        must(sp_target_all(&party_));
+        return wait([&] { return sp_submit(&party_, asks, serial); });
+    }
     std::uint64_t census() {
         return wait([&] { return sp_census(&party_); });
     }
@@ -100,6 +105,12 @@ public:
     Kind open_kind() {
         return static_cast<Kind>(wait([&] { return sp_open_kind(&party_); }));
     }
+    /* The least number of a request that is open or waits, or 0. */
+    std::uint64_t pending() {
+        return wait([&] { return sp_pending(&party_); });
+    }
+    /* Waits until the request of the number, and each before it, is closed. */
+    void wait_closed(std::uint64_t number) { must(sp_wait_closed(&party_, number)); }
     void forget() {
         wait([&] { return sp_forget(&party_); });
     }
@@ -128,22 +139,30 @@ public:
     std::uint64_t drive_four(Callback callback = {}) {
         return must(sp_drive_four(&party_, at_safe_point, &callback));
     }
+    /* Runs a VM operation: the callback runs once while all live threads are held (its `kind` is
+       SP_CENSUS), and for the targets of handshakes that were submitted before. */
+    std::uint64_t at_safepoint(Callback callback) {
+        return must(sp_at_safepoint(&party_, at_safe_point, &callback));
+    }
     /* For a host with its own waits: works on the oldest request as far as that goes without
        waiting, and says what comes next. `closed`: it is closed. `run`: the host runs its callback
-       for what `called` tells. `awaits`: so many threads have still to come as `awaited` tells. */
-    enum class Next { closed, run, awaits };
+       for what `called` tells. `at_safepoint`: all live threads are held, and the host runs its VM
+       operation. `awaits`: so many threads have still to come as `awaited` tells. */
+    enum class Next { closed, run, at_safepoint, awaits };
     Next advance() {
         std::int64_t answer;
         SP_WAIT(answer, sp_advance(&party_));
         sp_ring();
+        kind_ = answer == SP_AT_SAFEPOINT ? SP_CENSUS : SP_HANDSHAKE;
         if (answer == SP_RUN) return Next::run;
+        if (answer == SP_AT_SAFEPOINT) return Next::at_safepoint;
         if (answer == SP_AWAITS) return Next::awaits;
         must(answer);
         return Next::closed;
     }
     sp_served called() {
         return {must(sp_called_operation(&party_)),
-                static_cast<std::size_t>(must(sp_called_place(&party_))), nullptr};
+                static_cast<std::size_t>(must(sp_called_place(&party_))), nullptr, kind_};
     }
     std::uint64_t awaited() { return must(sp_awaited(&party_)); }
     std::uint64_t counted(std::uint64_t serial) { return must(sp_counted(&party_, serial)); }
@@ -154,6 +173,9 @@ public:
         if (answer == SP_LATE) return Code::late;
         return must(answer) ? Code::used : Code::freed;
     }
+
+private:
+    int kind_ = SP_HANDSHAKE; /* of what `called` tells */
 };
 
 /* The thread that makes it, as long as it stands: it starts, serves what it is told with its

@@ -43,6 +43,7 @@ int64_t sp_checked_unblock(struct sp_party *thread);
 int64_t sp_checked_stop_next(struct sp_party *thread);
 int64_t sp_checked_stop_serve(struct sp_party *thread);
 int64_t sp_checked_target(struct sp_party *party, uint64_t name);
+int64_t sp_checked_target_all(struct sp_party *party);
 int64_t sp_checked_submit(struct sp_party *party, uint32_t asks, uint64_t serial);
 int64_t sp_checked_census(struct sp_party *party);
 int64_t sp_checked_install(struct sp_party *party, uint32_t method);
@@ -50,6 +51,7 @@ int64_t sp_checked_invalidate(struct sp_party *party, uint64_t serial);
 int64_t sp_checked_reply(struct sp_party *party, uint64_t operation, uint64_t name);
 int64_t sp_checked_live_after(struct sp_party *party, uint64_t name);
 int64_t sp_checked_open_kind(struct sp_party *party);
+int64_t sp_checked_pending(struct sp_party *party);
 int64_t sp_checked_forget(struct sp_party *party);
 int64_t sp_checked_advance(struct sp_party *coordinator);
 int64_t sp_checked_called_operation(struct sp_party *coordinator);
@@ -76,6 +78,8 @@ int64_t sp_checked_enter_blocked(struct sp_party *thread);
 int64_t sp_checked_leave_blocked(struct sp_party *thread, sp_callback call, void *with);
 int64_t sp_checked_drive(struct sp_party *coordinator, sp_callback call, void *with);
 int64_t sp_checked_drive_four(struct sp_party *coordinator, sp_callback call, void *with);
+int64_t sp_checked_at_safepoint(struct sp_party *coordinator, sp_callback call, void *with);
+int64_t sp_checked_wait_closed(struct sp_party *party, uint64_t number);
 int64_t sp_checked_reclaim(struct sp_party *coordinator, uint64_t serial, sp_callback call,
                            void *with);
 
@@ -108,6 +112,7 @@ void sp_checked_moved(struct sp_party *party);
 #define sp_stop_next sp_checked_stop_next
 #define sp_stop_serve sp_checked_stop_serve
 #define sp_target sp_checked_target
+#define sp_target_all sp_checked_target_all
 #define sp_submit sp_checked_submit
 #define sp_census sp_checked_census
 #define sp_install sp_checked_install
@@ -115,6 +120,7 @@ void sp_checked_moved(struct sp_party *party);
 #define sp_reply sp_checked_reply
 #define sp_live_after sp_checked_live_after
 #define sp_open_kind sp_checked_open_kind
+#define sp_pending sp_checked_pending
 #define sp_forget sp_checked_forget
 #define sp_advance sp_checked_advance
 #define sp_called_operation sp_checked_called_operation
@@ -140,6 +146,8 @@ void sp_checked_moved(struct sp_party *party);
 #define sp_leave_blocked sp_checked_leave_blocked
 #define sp_drive sp_checked_drive
 #define sp_drive_four sp_checked_drive_four
+#define sp_at_safepoint sp_checked_at_safepoint
+#define sp_wait_closed sp_checked_wait_closed
 #define sp_reclaim sp_checked_reclaim
 #endif
 

@@ -12,7 +12,7 @@
    as if another thread had called it. But no log is written where a single step of the coordinator
    comes between the calls of sp_advance for one request, or where a single step holds a thread when
    the first of these calls is made. Behind a call stand the callbacks that ran
-   in it, each with its reply. Looks that change nothing (sp_reply, sp_live_after, sp_open_kind,
+   in it, each with its reply. Looks that change nothing (sp_reply, sp_live_after, sp_open_kind, sp_pending,
    sp_counted, sp_called_operation, sp_called_place, sp_awaited) aren't noted, nor is a refusal that
    the core doesn't have (SP_NOT_THIS, SP_NO_MEMORY, SP_HISTORY_FULL, SP_BAD_ASK). sp_forget forgets
    nothing. One system is recorded: that of the first sp_make. */
@@ -47,6 +47,7 @@ int64_t sp_recorded_unblock(struct sp_party *thread);
 int64_t sp_recorded_stop_next(struct sp_party *thread);
 int64_t sp_recorded_stop_serve(struct sp_party *thread);
 int64_t sp_recorded_target(struct sp_party *party, uint64_t name);
+int64_t sp_recorded_target_all(struct sp_party *party);
 int64_t sp_recorded_submit(struct sp_party *party, uint32_t asks, uint64_t serial);
 int64_t sp_recorded_census(struct sp_party *party);
 int64_t sp_recorded_forget(struct sp_party *party);
@@ -85,6 +86,7 @@ int64_t sp_recorded_reclaim_end(struct sp_party *coordinator, uint64_t serial);
 #define sp_stop_next sp_recorded_stop_next
 #define sp_stop_serve sp_recorded_stop_serve
 #define sp_target sp_recorded_target
+#define sp_target_all sp_recorded_target_all
 #define sp_submit sp_recorded_submit
 #define sp_census sp_recorded_census
 #define sp_forget sp_recorded_forget

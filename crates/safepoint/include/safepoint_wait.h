@@ -16,14 +16,17 @@
 extern "C" {
 #endif
 
-/* An operation that is served at a safe point. `thread` is the thread that has stopped and runs the
-   callback itself, or NULL if the coordinator runs the callback for the held thread of the place.
-   The stack is published, and its thread doesn't run meanwhile. The callback makes no call with
-   that thread, and no call that waits. */
+/* An operation that is served at a safe point. `kind` is SP_HANDSHAKE for one target: `thread` is the
+   thread that has stopped and runs the callback itself, or NULL if the coordinator runs the callback
+   for the held thread of the place. The stack is published, and its thread doesn't run meanwhile.
+   `kind` is SP_CENSUS for a VM operation: all live threads are held, and their stacks are published.
+   The callback runs once, in the coordinator, with NULL and the place 0. A callback makes no call
+   with that thread, and no call that waits. */
 struct sp_served {
     uint64_t operation;
     size_t place;
     struct sp_party *thread;
+    int kind;
 };
 typedef void (*sp_callback)(void *with, const struct sp_served *served);
 
@@ -70,6 +73,12 @@ int64_t sp_leave_blocked(struct sp_party *thread, sp_callback call, void *with);
 int64_t sp_drive(struct sp_party *coordinator, sp_callback call, void *with);
 /* The same for up to four handshakes at once. Returns how many it closed. */
 int64_t sp_drive_four(struct sp_party *coordinator, sp_callback call, void *with);
+/* Runs a VM operation: submits a census, and works on requests until it is closed. The callback runs
+   for it once, with the kind SP_CENSUS, and for the targets of handshakes that were submitted
+   before. Returns the number of the census. */
+int64_t sp_at_safepoint(struct sp_party *coordinator, sp_callback call, void *with);
+/* Any party: waits until the request of the number, and each before it, is closed. Returns 0. */
+int64_t sp_wait_closed(struct sp_party *party, uint64_t number);
 /* Reclaims a code that no thread enters any more, by a handshake of all live threads. Returns 0 if
    the code is freed, else how many frames of it are on stacks; SP_LATE; and what sp_reclaim_begin
    and sp_drive return. SP_BAD_TARGETS: threads started and exited while it listed the live names, so

@@ -1,4 +1,4 @@
--- The numbers of the faults: -1 and below. One reason has one number, whichever act it refuses.
+-- The numbers of the faults: -1 and below. A reason has one number, for all acts that it refuses.
 use Rattle.std.specs.Prelude.{ℤ, pos, negsuc, min, Ok, Err}
 use Rattle.parties.specs.declared.acts.Fault.{Fault}
 use Rattle.parties.specs.declared.acts.Fault.TheVariants as fault
@@ -137,6 +137,8 @@ fault_code fault.NotWeighed = negsuc 34
 fault_code (fault.Late place) = negsuc 35
 fault_code fault.Runs = negsuc 36
 fault_code fault.Awaits = negsuc 37
+fault_code fault.AtSafepoint = negsuc 38
+fault_code fault.Pending = negsuc 42
 fault_code (fault.Start f) = start_code f
 fault_code (fault.Ask f) = ask_code f
 fault_code (fault.Code f) = install_refusal f
@@ -154,7 +156,7 @@ abbrev pub code_of : Told → ℤ
 code_of (Ok n) = pos (min n 9223372036854775807)
 code_of (Err e) = fault_code e
 
--- Beside them: the place of a party is taken, and there is no such ask.
+-- Two further refusals: the party is made already, and there is no such ask.
 abbrev pub made_code : ℤ
 made_code = negsuc 39
 

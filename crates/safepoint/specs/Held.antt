@@ -1,4 +1,4 @@
--- What a handle owns: a box of a party to a system over this board and row, or nothing.
+-- A handle owns a box of a party of a system over this board and row, or nothing.
 use Rattle.std.specs.Prelude.{Option}
 use Rattle.std.specs.Coded.{coded_option}
 use Rattle.std.specs.Global.{Global}
@@ -26,11 +26,11 @@ no_row = record { words = 0; slots = 0; views_name = 0; atom = 0; block = 0; off
 abbrev pub no_board : BoardId
 no_board = record { table = no_row; slots = 0; places = 0 }
 
--- parties to a system over this board and row
+-- parties of a system over this board and row
 abbrev pub party_of : BoardId → RowId → RattleType
 party_of board row = party.the_row marked (record { board = board; poll_row = row })
 
--- what contracts see of one
+-- such a party as contracts see it
 abbrev pub Seen : Type 0
 Seen = (party_of no_board no_row).Denot
 

@@ -1,4 +1,4 @@
-// What any party of C asks for.
+// The calls of any party. `safepoint.h` lists the refusals.
 ghost use Rattle.std.specs.Prelude.{◌≡◌, None};
 ghost use Rattle.safepoint.specs.Codes.{bad_ask_code};
 ghost use Rattle.safepoint.specs.Told.{Replies, Submits, ask_of};
@@ -8,7 +8,7 @@ use crate::handle::CHandle;
 use operations::Ask;
 use parties::acts::Act;
 
-/// The name is one of the targets of the next request.
+/// Adds the name to the targets of the next request.
 #[unsafe(no_mangle)]
 pub extern "C" fn sp_target(party: &mut CHandle, name: u64) -> i64
     ensures { Replies party.old.handle.board.places result (Act.Target name) party.old.handle.value
@@ -17,7 +17,16 @@ pub extern "C" fn sp_target(party: &mut CHandle, name: u64) -> i64
     code_of(party.dispatch(Act::Target(name)))
 }
 
-// The ask of a number, with a serial.
+/// Makes all threads that are live at the submit the targets of the next request.
+#[unsafe(no_mangle)]
+pub extern "C" fn sp_target_all(party: &mut CHandle) -> i64
+    ensures { Replies party.old.handle.board.places result Act.TargetAll party.old.handle.value
+        party.new.handle.value }
+{
+    code_of(party.dispatch(Act::TargetAll))
+}
+
+// The ask of this number, with a serial.
 fn ask_of(asks: u32, serial: u64) -> Option<Ask>
     ensures { result ≡ ask_of asks serial }
 {
@@ -29,7 +38,8 @@ fn ask_of(asks: u32, serial: u64) -> Option<Ask>
     }
 }
 
-/// A handshake of the targets waits: its number. It asks for the depth (0), for the frames of the code of a serial (1), or for the top (2).
+/// Queues a handshake of the targets, and returns its number. It asks for the depth (0), the frames of the serial's
+/// code (1), or the top (2).
 #[unsafe(no_mangle)]
 pub extern "C" fn sp_submit(party: &mut CHandle, asks: u32, serial: u64) -> i64
     ensures { Submits party.old.handle.board.places (ask_of asks serial) bad_ask_code result
@@ -41,7 +51,7 @@ pub extern "C" fn sp_submit(party: &mut CHandle, asks: u32, serial: u64) -> i64
     }
 }
 
-/// A census waits: its number.
+/// Queues a census, and returns its number.
 #[unsafe(no_mangle)]
 pub extern "C" fn sp_census(party: &mut CHandle) -> i64
     ensures { Replies party.old.handle.board.places result (Act.Submit None) party.old.handle.value
@@ -50,7 +60,7 @@ pub extern "C" fn sp_census(party: &mut CHandle) -> i64
     code_of(party.dispatch(Act::Submit(None)))
 }
 
-/// The first step of reclaiming a code: the number of the handshake of the targets, 0 without any.
+/// Does the first step of reclaiming a code. Returns the number of its handshake, 0 without targets.
 #[unsafe(no_mangle)]
 pub extern "C" fn sp_reclaim_begin(party: &mut CHandle, serial: u64) -> i64
     ensures { Replies party.old.handle.board.places result (Act.Reclaim serial)
@@ -59,7 +69,7 @@ pub extern "C" fn sp_reclaim_begin(party: &mut CHandle, serial: u64) -> i64
     code_of(party.dispatch(Act::Reclaim(serial)))
 }
 
-/// A new code for the method: its serial.
+/// Installs a new code for the method, and returns its serial.
 #[unsafe(no_mangle)]
 pub extern "C" fn sp_install(party: &mut CHandle, method: u32) -> i64
     ensures { Replies party.old.handle.board.places result (Act.Install method)
@@ -68,7 +78,7 @@ pub extern "C" fn sp_install(party: &mut CHandle, method: u32) -> i64
     code_of(party.dispatch(Act::Install(method)))
 }
 
-/// No thread enters the code any more.
+/// Makes the code not entrant.
 #[unsafe(no_mangle)]
 pub extern "C" fn sp_invalidate(party: &mut CHandle, serial: u64) -> i64
     ensures { Replies party.old.handle.board.places result (Act.Invalidate serial)
@@ -77,7 +87,7 @@ pub extern "C" fn sp_invalidate(party: &mut CHandle, serial: u64) -> i64
     code_of(party.dispatch(Act::Invalidate(serial)))
 }
 
-/// The reply of a name in an operation.
+/// Returns the name's reply in the operation.
 #[unsafe(no_mangle)]
 pub extern "C" fn sp_reply(party: &mut CHandle, op: u64, name: u64) -> i64
     ensures { Replies party.old.handle.board.places result (Act.Reply op name)
@@ -86,7 +96,7 @@ pub extern "C" fn sp_reply(party: &mut CHandle, op: u64, name: u64) -> i64
     code_of(party.dispatch(Act::Reply(op, name)))
 }
 
-/// The least name above this one that is live, 0 for none.
+/// Returns the least live name above this one, 0 for none.
 #[unsafe(no_mangle)]
 pub extern "C" fn sp_live_after(party: &mut CHandle, name: u64) -> i64
     ensures { Replies party.old.handle.board.places result (Act.LiveAfter name)
@@ -95,7 +105,7 @@ pub extern "C" fn sp_live_after(party: &mut CHandle, name: u64) -> i64
     code_of(party.dispatch(Act::LiveAfter(name)))
 }
 
-/// Of which kind what is open is: nothing (0), handshakes (1), or a census (2).
+/// Returns the kind of the open requests: none (0), handshakes (1), or a census (2).
 #[unsafe(no_mangle)]
 pub extern "C" fn sp_open_kind(party: &mut CHandle) -> i64
     ensures { Replies party.old.handle.board.places result Act.OpenKind party.old.handle.value
@@ -104,7 +114,16 @@ pub extern "C" fn sp_open_kind(party: &mut CHandle) -> i64
     code_of(party.dispatch(Act::OpenKind))
 }
 
-/// Forgets what was entered so far.
+/// Returns the least number of an open or waiting request, 0 without one.
+#[unsafe(no_mangle)]
+pub extern "C" fn sp_pending(party: &mut CHandle) -> i64
+    ensures { Replies party.old.handle.board.places result Act.Pending party.old.handle.value
+        party.new.handle.value }
+{
+    code_of(party.dispatch(Act::Pending))
+}
+
+/// Forgets all entries so far.
 #[unsafe(no_mangle)]
 pub extern "C" fn sp_forget(party: &mut CHandle) -> i64
     ensures { Replies party.old.handle.board.places result Act.Forget party.old.handle.value

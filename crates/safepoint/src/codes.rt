@@ -1,4 +1,4 @@
-// The numbers that C is told.
+// The numbers that C gets.
 ghost use Rattle.std.specs.Prelude.{◌≡◌, Ok};
 ghost use Rattle.safepoint.specs.Codes.{code_of, fault_code};
 
@@ -196,6 +196,8 @@ fn fault_code(fault: Fault) -> i64
         Fault::Late(_) => -36,
         Fault::Runs => -37,
         Fault::Awaits => -38,
+        Fault::AtSafepoint => -39,
+        Fault::Pending => -43,
         Fault::Start(fault) => start_code(fault),
         Fault::Ask(fault) => ask_code(fault),
         Fault::Code(fault) => install_refusal(fault),
@@ -230,7 +232,7 @@ pub(crate) fn code_of(said: Result<u64, Fault>) -> i64
     }
 }
 
-// The reasons of the calls that a thread makes most come first, each by its number: such a call keeps its own alone.
+// The reasons of a thread's most frequent calls come first, each with its number, so that such a call has only its own.
 #[inline(always)]
 fn fault_code_of_step(fault: Fault) -> i64
     ensures { result ≡ fault_code fault }
@@ -246,7 +248,7 @@ fn fault_code_of_step(fault: Fault) -> i64
     }
 }
 
-/// What C gets of the calls that a thread makes most, and that don't poll.
+/// Returns the code of a frequent call that doesn't poll.
 #[inline(always)]
 pub(crate) fn code_of_step(said: Result<u64, Fault>) -> i64
     ensures { result ≡ code_of said }
@@ -257,7 +259,7 @@ pub(crate) fn code_of_step(said: Result<u64, Fault>) -> i64
     }
 }
 
-// It stands apart, since few polls stop.
+// A function of its own, since few polls stop.
 #[cold]
 #[inline(never)]
 fn code_of_stop(n: u64) -> i64
@@ -266,7 +268,7 @@ fn code_of_stop(n: u64) -> i64
     number_code(n)
 }
 
-/// What C gets of the calls that poll: mostly the thread goes on.
+/// Returns the code of a call that polls. Mostly the thread continues.
 #[inline(always)]
 pub(crate) fn code_of_poll(said: Result<u64, Fault>) -> i64
     ensures { result ≡ code_of said }

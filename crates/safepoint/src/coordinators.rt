@@ -1,4 +1,4 @@
-// What the coordinator of C calls.
+// The calls of the coordinator. `safepoint.h` lists the refusals.
 ghost use Rattle.std.specs.Prelude.{◌≡◌, Some, None};
 ghost use Rattle.safepoint.specs.Told.{Replies};
 
@@ -6,7 +6,7 @@ use crate::codes::code_of;
 use crate::handle::CHandle;
 use parties::acts::Act;
 
-/// Opens the oldest request: its number.
+/// Opens the oldest waiting request, and returns its number.
 #[unsafe(no_mangle)]
 pub extern "C" fn sp_open(coordinator: &mut CHandle) -> i64
     ensures { Replies coordinator.old.handle.board.places result Act.Open
@@ -15,7 +15,7 @@ pub extern "C" fn sp_open(coordinator: &mut CHandle) -> i64
     code_of(coordinator.dispatch(Act::Open))
 }
 
-/// Tells a name: the number that its place is armed with, 0 where the name is gone.
+/// Arms the named thread, and returns the number with which its place is armed, 0 if the name is gone.
 #[unsafe(no_mangle)]
 pub extern "C" fn sp_tell(coordinator: &mut CHandle, name: u64) -> i64
     ensures { Replies coordinator.old.handle.board.places result (Act.Tell name)
@@ -24,7 +24,7 @@ pub extern "C" fn sp_tell(coordinator: &mut CHandle, name: u64) -> i64
     code_of(coordinator.dispatch(Act::Tell(name)))
 }
 
-/// Holds the thread of a place: the oldest operation that it owes.
+/// Holds the thread of a place, and returns the oldest operation that it owes.
 #[unsafe(no_mangle)]
 pub extern "C" fn sp_hold(coordinator: &mut CHandle, place: usize) -> i64
     ensures { Replies coordinator.old.handle.board.places result (Act.Hold place)
@@ -33,7 +33,7 @@ pub extern "C" fn sp_hold(coordinator: &mut CHandle, place: usize) -> i64
     code_of(coordinator.dispatch(Act::Hold(place)))
 }
 
-/// The operation of a held thread is served: its number.
+/// Serves the held thread of a place, and returns the operation's number.
 #[unsafe(no_mangle)]
 pub extern "C" fn sp_serve(coordinator: &mut CHandle, place: usize) -> i64
     ensures { Replies coordinator.old.handle.board.places result (Act.Serve place)
@@ -42,7 +42,7 @@ pub extern "C" fn sp_serve(coordinator: &mut CHandle, place: usize) -> i64
     code_of(coordinator.dispatch(Act::Serve(place)))
 }
 
-/// A held thread is let go.
+/// Releases the held thread of a place.
 #[unsafe(no_mangle)]
 pub extern "C" fn sp_release(coordinator: &mut CHandle, place: usize) -> i64
     ensures { Replies coordinator.old.handle.board.places result (Act.Release place)
@@ -51,7 +51,7 @@ pub extern "C" fn sp_release(coordinator: &mut CHandle, place: usize) -> i64
     code_of(coordinator.dispatch(Act::Release(place)))
 }
 
-/// The open census is operated over the held threads: its number.
+/// Operates the open census over the held threads, and returns its number.
 #[unsafe(no_mangle)]
 pub extern "C" fn sp_operate(coordinator: &mut CHandle) -> i64
     ensures { Replies coordinator.old.handle.board.places result Act.Operate
@@ -60,7 +60,7 @@ pub extern "C" fn sp_operate(coordinator: &mut CHandle) -> i64
     code_of(coordinator.dispatch(Act::Operate))
 }
 
-/// The frames of a code in the census that was operated last.
+/// Returns how many frames a code had in the last operated census.
 #[unsafe(no_mangle)]
 pub extern "C" fn sp_counted(coordinator: &mut CHandle, serial: u64) -> i64
     ensures { Replies coordinator.old.handle.board.places result (Act.Counted serial)
@@ -69,7 +69,7 @@ pub extern "C" fn sp_counted(coordinator: &mut CHandle, serial: u64) -> i64
     code_of(coordinator.dispatch(Act::Counted(serial)))
 }
 
-/// Closes the oldest open request: its number.
+/// Closes the oldest open request, and returns its number.
 #[unsafe(no_mangle)]
 pub extern "C" fn sp_close(coordinator: &mut CHandle) -> i64
     ensures { Replies coordinator.old.handle.board.places result (Act.Close None)
@@ -78,7 +78,7 @@ pub extern "C" fn sp_close(coordinator: &mut CHandle) -> i64
     code_of(coordinator.dispatch(Act::Close(None)))
 }
 
-/// Closes the open request of the number.
+/// Closes the open request of this number, and returns the number.
 #[unsafe(no_mangle)]
 pub extern "C" fn sp_close_of(coordinator: &mut CHandle, number: u64) -> i64
     ensures { Replies coordinator.old.handle.board.places result (Act.Close (Some number))
@@ -87,8 +87,8 @@ pub extern "C" fn sp_close_of(coordinator: &mut CHandle, number: u64) -> i64
     code_of(coordinator.dispatch(Act::Close(Some(number))))
 }
 
-/// Goes on with the work on the open requests as far as it can without waiting: the number of the request that it closed. Where a held thread
-/// is served next, or threads have still to come, the code says so.
+/// Advances the work on the open requests as far as it goes without waiting. Returns the number of the request that it
+/// closed, or a code that says: a held thread is served next, the census is operated, or threads haven't come yet.
 #[unsafe(no_mangle)]
 pub extern "C" fn sp_advance(coordinator: &mut CHandle) -> i64
     ensures { Replies coordinator.old.handle.board.places result Act.Advance
@@ -97,7 +97,7 @@ pub extern "C" fn sp_advance(coordinator: &mut CHandle) -> i64
     code_of(coordinator.dispatch(Act::Advance))
 }
 
-/// The operation for which a held thread is served next, 0 without one.
+/// Returns the operation of the host's next callback, 0 without one.
 #[unsafe(no_mangle)]
 pub extern "C" fn sp_called_operation(coordinator: &mut CHandle) -> i64
     ensures { Replies coordinator.old.handle.board.places result Act.CalledOperation
@@ -106,7 +106,7 @@ pub extern "C" fn sp_called_operation(coordinator: &mut CHandle) -> i64
     code_of(coordinator.dispatch(Act::CalledOperation))
 }
 
-/// The place of that thread.
+/// Returns the place of the held thread of that callback, 0 without one.
 #[unsafe(no_mangle)]
 pub extern "C" fn sp_called_place(coordinator: &mut CHandle) -> i64
     ensures { Replies coordinator.old.handle.board.places result Act.CalledPlace
@@ -115,7 +115,7 @@ pub extern "C" fn sp_called_place(coordinator: &mut CHandle) -> i64
     code_of(coordinator.dispatch(Act::CalledPlace))
 }
 
-/// How many threads the work waits for.
+/// Returns how many threads the work waits for.
 #[unsafe(no_mangle)]
 pub extern "C" fn sp_awaited(coordinator: &mut CHandle) -> i64
     ensures { Replies coordinator.old.handle.board.places result Act.Awaited
@@ -124,7 +124,7 @@ pub extern "C" fn sp_awaited(coordinator: &mut CHandle) -> i64
     code_of(coordinator.dispatch(Act::Awaited))
 }
 
-/// The last step of reclaiming a code: 0 where it is freed, or how many activations stand.
+/// Does the last step of reclaiming a code. Returns how many activations it has, 0 if it is freed.
 #[unsafe(no_mangle)]
 pub extern "C" fn sp_reclaim_end(coordinator: &mut CHandle, serial: u64) -> i64
     ensures { Replies coordinator.old.handle.board.places result (Act.Weigh serial)

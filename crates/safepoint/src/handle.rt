@@ -1,4 +1,4 @@
-// What C holds of a party.
+// A party as C holds it.
 ghost use Rattle.std.specs.Prelude.{◌≡◌, ℕ, OnOk, OnErr, IfOk, Option, Some, None, is_some, true, false};
 ghost use Rattle.board.specs.Boards.{BoardId};
 ghost use Rattle.poll.specs.Rows.{RowId};
@@ -20,7 +20,7 @@ use std::ptr::null_mut;
 use std::sync::Arc;
 use thread_list::Parts;
 
-/// A boxed party as its pointer, whatever its system is, or none.
+/// A pointer to a boxed party of any system, or none.
 #[repr(C)]
 #[derive(Drop)]
 pub struct Handle {
@@ -35,7 +35,7 @@ impl Model for Handle {
     ghost also_owns = { λ h. held_owns h.alloc h.at h.board h.row h.value };
 }
 
-// Another party to the same system, and whether there was memory for it.
+// Another party of the same system, and whether there was memory for it.
 fn fork<N: Name>(
     parts: RawBox<Party<N>, Global>,
 ) -> (RawBox<Party<N>, Global>, (RawBox<Party<N>, Global>, bool))
@@ -67,7 +67,7 @@ fn boxed<N: Name>(alloc: Global, party: Party<N>) -> (RawBox<Party<N>, Global>, 
     }
 }
 
-// The coordinator of a new system over these parts, and whether there was memory for it.
+// The coordinator of a new system of these parts, and whether there was memory for it.
 fn make<N: Name>(alloc: Global, parts: Parts) -> (RawBox<Party<N>, Global>, bool)
     requires { (parts.board ≡ N.board) × (parts.row ≡ N.poll_row) }
     ensures { Begins N.board N.poll_row result.0.value result.1 }
@@ -99,7 +99,6 @@ fn begun<N: Name>(
     }
 }
 
-// The party goes.
 fn free<N: Name>(parts: RawBox<Party<N>, Global>) -> bool
     requires { is_some parts.value ≡ true }
     ensures { result ≡ true }
@@ -109,7 +108,7 @@ fn free<N: Name>(parts: RawBox<Party<N>, Global>) -> bool
 }
 
 impl Handle {
-    // Does an act of the party, where it lies.
+    // Does an act of the party, in place.
     #[inline(always)]
     fn dispatch(&mut self, act: Act) -> Result<u64, Fault>
         requires { is_some self.old.value ≡ true }
@@ -181,7 +180,7 @@ impl Handle {
     }
 }
 
-/// The place of a party in C's memory. All zeros, it has none.
+/// The memory of a party in C. All zeros, it has no party.
 #[repr(C)]
 #[derive(Drop)]
 pub struct CHandle {
@@ -225,7 +224,7 @@ impl CHandle {
         *self = CHandle { made, handle };
     }
 
-    /// Does an act of the party that is here.
+    /// Does an act of the party. Refused with `NotThis` without one.
     #[inline(always)]
     pub(crate) fn dispatch(&mut self, act: Act) -> Result<u64, Fault>
         ensures said { Answers self.old.handle.board.places self.old.handle.value act result
@@ -239,7 +238,7 @@ impl CHandle {
         self.handle.dispatch(act)
     }
 
-    /// Puts another party to the same system into the other place.
+    /// Puts another party of the same system into `other`.
     pub(crate) fn fork(&mut self, alloc: Global, other: &mut CHandle) -> Result<u64, Fault>
         requires { is_some other.old.handle.value ≡ false }
 

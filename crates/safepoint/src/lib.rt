@@ -1,5 +1,4 @@
-//! What C calls of a running system.
-//! Runtimes in C, C++ and Rust link it, with `waits/` in C beside it.
+//! The functions of a running system for C. Runtimes in C, C++ and Rust link them, with the C files of `waits/`.
 //! Read `crates/safepoint/README.md` and `include/safepoint.h` first, then `src/threads.rt`.
 #![tactic(auto)]
 

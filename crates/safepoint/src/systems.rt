@@ -1,4 +1,4 @@
-// What makes systems for C, and parties to them.
+// Makes systems and their parties. `safepoint.h` lists the refusals.
 ghost use Rattle.std.specs.Prelude.{◌≡◌, ◌≢◌, None, pos};
 ghost use Rattle.safepoint.specs.Told.{IsBegun, IsFresh};
 
@@ -33,7 +33,7 @@ pub extern "C" fn sp_make(
     }
 }
 
-/// Another party to the same system.
+/// Makes another party of the same system.
 #[unsafe(no_mangle)]
 pub extern "C" fn sp_fork(alloc: Global, party: &mut CHandle, other: &mut CHandle) -> i64
     ensures same { party.new.handle.value ≡ party.old.handle.value }
@@ -48,7 +48,7 @@ pub extern "C" fn sp_fork(alloc: Global, party: &mut CHandle, other: &mut CHandl
     code_of(party.fork(alloc, other))
 }
 
-/// The party goes.
+/// Frees the party.
 #[unsafe(no_mangle)]
 pub extern "C" fn sp_free(alloc: Global, party: &mut CHandle)
     ensures { party.new.handle.value ≡ None }

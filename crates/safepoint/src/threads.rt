@@ -1,4 +1,4 @@
-// What a thread of C calls.
+// The calls of a thread. `safepoint.h` lists the refusals. A call that polls returns the poll's number, 0 to continue.
 ghost use Rattle.std.specs.Prelude.{◌≡◌};
 ghost use Rattle.safepoint.specs.Told.{Replies};
 
@@ -6,7 +6,7 @@ use crate::codes::{code_of, code_of_poll, code_of_step};
 use crate::handle::CHandle;
 use parties::acts::Act;
 
-/// The party becomes a thread, and starts: its name.
+/// Makes the party a thread, and returns its name.
 #[unsafe(no_mangle)]
 pub extern "C" fn sp_start(thread: &mut CHandle) -> i64
     ensures { Replies thread.old.handle.board.places result Act.Start thread.old.handle.value
@@ -15,7 +15,7 @@ pub extern "C" fn sp_start(thread: &mut CHandle) -> i64
     code_of(thread.dispatch(Act::Start))
 }
 
-/// The thread ends.
+/// Ends the thread, or polls if an operation is pending for it.
 #[unsafe(no_mangle)]
 pub extern "C" fn sp_exit(thread: &mut CHandle) -> i64
     ensures { Replies thread.old.handle.board.places result Act.Exit thread.old.handle.value
@@ -24,7 +24,7 @@ pub extern "C" fn sp_exit(thread: &mut CHandle) -> i64
     code_of(thread.dispatch(Act::Exit))
 }
 
-/// The thread's name.
+/// Returns the thread's name.
 #[unsafe(no_mangle)]
 pub extern "C" fn sp_name(thread: &mut CHandle) -> i64
     ensures { Replies thread.old.handle.board.places result Act.Name thread.old.handle.value
@@ -33,7 +33,7 @@ pub extern "C" fn sp_name(thread: &mut CHandle) -> i64
     code_of(thread.dispatch(Act::Name))
 }
 
-/// The place whose words are the thread's.
+/// Returns the thread's place.
 #[unsafe(no_mangle)]
 pub extern "C" fn sp_place(thread: &mut CHandle) -> i64
     ensures { Replies thread.old.handle.board.places result Act.Place thread.old.handle.value
@@ -42,7 +42,7 @@ pub extern "C" fn sp_place(thread: &mut CHandle) -> i64
     code_of(thread.dispatch(Act::Place))
 }
 
-/// The thread's state.
+/// Returns the thread's state, as a number.
 #[unsafe(no_mangle)]
 pub extern "C" fn sp_state(thread: &mut CHandle) -> i64
     ensures { Replies thread.old.handle.board.places result Act.State thread.old.handle.value
@@ -51,7 +51,7 @@ pub extern "C" fn sp_state(thread: &mut CHandle) -> i64
     code_of(thread.dispatch(Act::State))
 }
 
-/// Enters a method: the serial of its code, 0 where it is interpreted.
+/// Enters a method, and returns the serial of its code, 0 if it is interpreted.
 #[unsafe(no_mangle)]
 pub extern "C" fn sp_call(thread: &mut CHandle, method: u32) -> i64
     ensures { Replies thread.old.handle.board.places result (Act.Call method)
@@ -60,7 +60,7 @@ pub extern "C" fn sp_call(thread: &mut CHandle, method: u32) -> i64
     code_of_step(thread.dispatch(Act::Call(method)))
 }
 
-/// Leaves the top method, and polls.
+/// Leaves the top method and polls.
 #[unsafe(no_mangle)]
 pub extern "C" fn sp_ret(thread: &mut CHandle) -> i64
     ensures { Replies thread.old.handle.board.places result Act.Ret thread.old.handle.value
@@ -87,7 +87,7 @@ pub extern "C" fn sp_publish(thread: &mut CHandle) -> i64
     code_of_step(thread.dispatch(Act::Publish))
 }
 
-/// Into the VM.
+/// Goes into the VM.
 #[unsafe(no_mangle)]
 pub extern "C" fn sp_to_vm(thread: &mut CHandle) -> i64
     ensures { Replies thread.old.handle.board.places result Act.ToVm thread.old.handle.value
@@ -96,7 +96,7 @@ pub extern "C" fn sp_to_vm(thread: &mut CHandle) -> i64
     code_of_step(thread.dispatch(Act::ToVm))
 }
 
-/// Out of the VM, and polls.
+/// Comes out of the VM and polls.
 #[unsafe(no_mangle)]
 pub extern "C" fn sp_from_vm(thread: &mut CHandle) -> i64
     ensures { Replies thread.old.handle.board.places result Act.FromVm thread.old.handle.value
@@ -105,7 +105,7 @@ pub extern "C" fn sp_from_vm(thread: &mut CHandle) -> i64
     code_of_poll(thread.dispatch(Act::FromVm))
 }
 
-/// Into native code.
+/// Goes into native code.
 #[unsafe(no_mangle)]
 pub extern "C" fn sp_to_native(thread: &mut CHandle) -> i64
     ensures { Replies thread.old.handle.board.places result Act.ToNative thread.old.handle.value
@@ -114,7 +114,7 @@ pub extern "C" fn sp_to_native(thread: &mut CHandle) -> i64
     code_of_step(thread.dispatch(Act::ToNative))
 }
 
-/// Back from native code, and polls.
+/// Comes back from native code and polls.
 #[unsafe(no_mangle)]
 pub extern "C" fn sp_from_native(thread: &mut CHandle) -> i64
     ensures { Replies thread.old.handle.board.places result Act.FromNative thread.old.handle.value
@@ -123,7 +123,7 @@ pub extern "C" fn sp_from_native(thread: &mut CHandle) -> i64
     code_of_poll(thread.dispatch(Act::FromNative))
 }
 
-/// From the VM into a wait.
+/// Goes from the VM into a wait.
 #[unsafe(no_mangle)]
 pub extern "C" fn sp_block(thread: &mut CHandle) -> i64
     ensures { Replies thread.old.handle.board.places result Act.Block thread.old.handle.value
@@ -132,7 +132,7 @@ pub extern "C" fn sp_block(thread: &mut CHandle) -> i64
     code_of_step(thread.dispatch(Act::Block))
 }
 
-/// Back from a wait, and polls.
+/// Comes back from a wait and polls.
 #[unsafe(no_mangle)]
 pub extern "C" fn sp_unblock(thread: &mut CHandle) -> i64
     ensures { Replies thread.old.handle.board.places result Act.Unblock thread.old.handle.value
@@ -141,7 +141,7 @@ pub extern "C" fn sp_unblock(thread: &mut CHandle) -> i64
     code_of_poll(thread.dispatch(Act::Unblock))
 }
 
-/// After a poll that stopped: the operation to serve now, 0 where the thread goes on.
+/// Continues after a poll that stopped, and returns the operation to serve, 0 if the thread continues.
 #[unsafe(no_mangle)]
 pub extern "C" fn sp_stop_next(thread: &mut CHandle) -> i64
     ensures { Replies thread.old.handle.board.places result Act.StopNext thread.old.handle.value
@@ -150,7 +150,7 @@ pub extern "C" fn sp_stop_next(thread: &mut CHandle) -> i64
     code_of(thread.dispatch(Act::StopNext))
 }
 
-/// The operation is served: what the poll after it answers.
+/// Reports that the operation is served, and polls.
 #[unsafe(no_mangle)]
 pub extern "C" fn sp_stop_serve(thread: &mut CHandle) -> i64
     ensures { Replies thread.old.handle.board.places result Act.StopServe thread.old.handle.value

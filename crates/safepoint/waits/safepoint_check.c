@@ -220,6 +220,7 @@ CHECKED(unblock, (struct sp_party *thread), (thread), thread)
 CHECKED(stop_next, (struct sp_party *thread), (thread), thread)
 CHECKED(stop_serve, (struct sp_party *thread), (thread), thread)
 CHECKED(target, (struct sp_party *party, uint64_t name), (party, name), party)
+CHECKED(target_all, (struct sp_party *party), (party), party)
 CHECKED(submit, (struct sp_party *party, uint32_t asks, uint64_t serial), (party, asks, serial), party)
 CHECKED(census, (struct sp_party *party), (party), party)
 CHECKED(install, (struct sp_party *party, uint32_t method), (party, method), party)
@@ -227,6 +228,7 @@ CHECKED(invalidate, (struct sp_party *party, uint64_t serial), (party, serial), 
 CHECKED(reply, (struct sp_party *party, uint64_t operation, uint64_t name), (party, operation, name), party)
 CHECKED(live_after, (struct sp_party *party, uint64_t name), (party, name), party)
 CHECKED(open_kind, (struct sp_party *party), (party), party)
+CHECKED(pending, (struct sp_party *party), (party), party)
 CHECKED(forget, (struct sp_party *party), (party), party)
 CHECKED(advance, (struct sp_party *coordinator), (coordinator), coordinator)
 CHECKED(called_operation, (struct sp_party *coordinator), (coordinator), coordinator)
@@ -284,6 +286,7 @@ WAITS(leave_native, (struct sp_party *thread, sp_callback call, void *with), (th
 WAITS(leave_blocked, (struct sp_party *thread, sp_callback call, void *with), (thread, run, host), thread)
 WAITS(drive, (struct sp_party *coordinator, sp_callback call, void *with), (coordinator, run, host), coordinator)
 WAITS(drive_four, (struct sp_party *coordinator, sp_callback call, void *with), (coordinator, run, host), coordinator)
+WAITS(at_safepoint, (struct sp_party *coordinator, sp_callback call, void *with), (coordinator, run, host), coordinator)
 WAITS(reclaim, (struct sp_party *coordinator, uint64_t serial, sp_callback call, void *with),
       (coordinator, serial, run, host), coordinator)
 
@@ -301,6 +304,13 @@ int64_t sp_checked_exit_thread(struct sp_party *thread, sp_callback call, void *
     struct host host = {call, with, it.note};
     int64_t answer = sp_exit_thread(thread, call && it.note ? called : NULL, &host);
     if (answer == 0) note_place(it, -1);
+    leave(it);
+    return answer;
+}
+
+int64_t sp_checked_wait_closed(struct sp_party *party, uint64_t number) {
+    struct entered it = enter_wait("sp_wait_closed", party);
+    int64_t answer = sp_wait_closed(party, number);
     leave(it);
     return answer;
 }

@@ -324,6 +324,16 @@ int64_t sp_recorded_target(struct sp_party *party, uint64_t name) {
     return answer;
 }
 
+/* A log has the names, so each thread that lives is named. */
+int64_t sp_recorded_target_all(struct sp_party *party) {
+    for (int64_t name = 0, answer;;) {
+        SP_WAIT(name, sp_live_after(party, (uint64_t)name));
+        if (name <= 0) return name;
+        answer = sp_recorded_target(party, (uint64_t)name);
+        if (answer < 0) return answer;
+    }
+}
+
 /* Puts the names of a request, which are taken now. */
 static void put_targets(void) {
     for (size_t i = 0; i < named; i++) put_number(targets[i]);
@@ -470,20 +480,25 @@ static void end_drive(struct sp_party *coordinator, int64_t answer) {
 /* The held thread that was called before is served by this step, or by a later one. */
 static void note_called(struct sp_party *coordinator, struct job job) {
     int64_t reply = reply_to(coordinator, job);
-    if (reply != SP_NOT_ANSWERED) note_job(&lines[0], job, reply);
+    if (reply != SP_NOT_ANSWERED && reply != SP_PENDING) note_job(&lines[0], job, reply);
 }
 
 static bool is_over(int64_t answer) {
-    return answer != SP_RUN && answer != SP_AWAITS && answer != SP_AGAIN && answer != SP_NO_MEMORY;
+    return answer != SP_RUN && answer != SP_AT_SAFEPOINT && answer != SP_AWAITS && answer != SP_AGAIN && answer != SP_NO_MEMORY;
 }
+
+/* Whether the coordinator ran a VM operation last. */
+static bool is_at_safepoint;
 
 int64_t sp_recorded_advance(struct sp_party *coordinator) {
     if (!is_inside()) begin_drive();
     int64_t operation = sp_called_operation(coordinator);
-    int64_t name = operation > 0 ? atomic_load(&name_at[sp_called_place(coordinator)]) : 0;
+    bool serves = operation > 0 && !is_at_safepoint;
+    int64_t name = serves ? atomic_load(&name_at[sp_called_place(coordinator)]) : 0;
     struct job job = {operation, name, 0, ticket()};
     int64_t answer = sp_advance(coordinator);
-    if (operation > 0) note_called(coordinator, job);
+    is_at_safepoint = answer == SP_AT_SAFEPOINT;
+    if (serves) note_called(coordinator, job);
     if (!is_inside() && is_over(answer)) end_drive(coordinator, answer);
     return answer;
 }

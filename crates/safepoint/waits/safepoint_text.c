@@ -42,9 +42,11 @@ static const struct {
     {SP_LATE, "a thread may still enter the code, or hasn't told that it has"},
     {SP_RUN, "a held thread is served next"},
     {SP_AWAITS, "threads have still to come"},
+    {SP_AT_SAFEPOINT, "all live threads are held at a safepoint"},
     {SP_MADE, "the party is made already"},
     {SP_BAD_SIZE, "a size is 0, or above its limit"},
     {SP_BAD_ASK, "there is no such ask"},
+    {SP_PENDING, "the operation isn't closed yet"},
 };
 
 const char *sp_text(int64_t answer) {

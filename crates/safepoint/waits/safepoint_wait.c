@@ -182,9 +182,11 @@ static int64_t next_of(struct sp_party *thread) {
 /* Serves the operation: what the poll behind it answers. */
 static int64_t serve(struct sp_party *thread, int64_t operation, sp_callback call, void *with) {
     int64_t told;
-    PROBE(callback__begin, operation, sp_name(thread), sp_place(thread));
-    if (call) call(with, &(struct sp_served){(uint64_t)operation, (size_t)sp_place(thread), thread});
-    PROBE(callback__end, operation, sp_name(thread), sp_place(thread));
+    if (call) {
+        PROBE(callback__begin, operation, sp_name(thread), sp_place(thread));
+        call(with, &(struct sp_served){(uint64_t)operation, (size_t)sp_place(thread), thread, SP_HANDSHAKE});
+        PROBE(callback__end, operation, sp_name(thread), sp_place(thread));
+    }
     SP_WAIT(told, sp_stop_serve(thread));
     return told;
 }
@@ -313,11 +315,15 @@ static void wait_for(struct late *it, unsigned awaited) {
     it->came = atomic_load(&all.came);
 }
 
-static void run_for_held(struct sp_party *coordinator, sp_callback call, void *with) {
-    uint64_t operation = (uint64_t)sp_called_operation(coordinator);
-    PROBE(callback__begin, (int64_t)operation, 0, sp_called_place(coordinator));
-    call(with, &(struct sp_served){operation, (size_t)sp_called_place(coordinator), NULL});
-    PROBE(callback__end, (int64_t)operation, 0, sp_called_place(coordinator));
+/* Whether the answer asks the host to run something while threads are held. */
+static bool runs(int64_t answer) { return answer == SP_RUN || answer == SP_AT_SAFEPOINT; }
+
+static void run_called(struct sp_party *coordinator, int64_t answer, sp_callback call, void *with) {
+    int64_t operation = sp_called_operation(coordinator), place = sp_called_place(coordinator);
+    int kind = answer == SP_RUN ? SP_HANDSHAKE : SP_CENSUS;
+    PROBE(callback__begin, operation, 0, place);
+    call(with, &(struct sp_served){(uint64_t)operation, (size_t)place, NULL, kind});
+    PROBE(callback__end, operation, 0, place);
 }
 
 /* It rings for threads that it let go: where it goes on at once, if some sleep already; before it waits, also for those that are about to. */
@@ -327,12 +333,12 @@ int64_t sp_drive(struct sp_party *coordinator, sp_callback call, void *with) {
     struct late late = begin();
     struct sp_pause pause = {0, 0};
     int64_t answer;
-    for (bool lets_go = false;; lets_go |= answer == SP_RUN) {
+    for (bool lets_go = false;; lets_go |= runs(answer)) {
         answer = sp_advance(coordinator);
         if (lets_go && (answer == SP_AWAITS || atomic_load(&all.gone.sleepers))) ring(&all.gone);
         if (answer != SP_AGAIN) pause.turns = 0;
-        if (answer == SP_RUN) {
-            if (call) run_for_held(coordinator, call, with);
+        if (runs(answer)) {
+            if (call) run_called(coordinator, answer, call, with);
         } else if (answer == SP_AWAITS) {
             lets_go = false;
             wait_for(&late, (unsigned)sp_awaited(coordinator));
@@ -344,6 +350,30 @@ int64_t sp_drive(struct sp_party *coordinator, sp_callback call, void *with) {
     atomic_fetch_add(&all.ended, 1);
     PROBE(request__end, (int64_t)coordinator, answer);
     return answer;
+}
+
+/* Drives until the request of the number is closed, where there is one. */
+static int64_t drive_to(struct sp_party *coordinator, int64_t number, sp_callback call, void *with) {
+    int64_t closed = 0;
+    while (number > 0 && closed != number)
+        if ((closed = sp_drive(coordinator, call, with)) < 0) return closed;
+    return number;
+}
+
+int64_t sp_at_safepoint(struct sp_party *coordinator, sp_callback call, void *with) {
+    int64_t number;
+    SP_WAIT(number, sp_census(coordinator));
+    return number < 0 ? number : drive_to(coordinator, number, call, with);
+}
+
+int64_t sp_wait_closed(struct sp_party *party, uint64_t number) {
+    struct sp_pause pause = {0, 0};
+    for (int64_t pending;;) {
+        SP_WAIT(pending, sp_pending(party));
+        if (pending < 0) return pending;
+        if (!pending || (uint64_t)pending > number) return 0;
+        sp_again(SP_AGAIN, &pause);
+    }
 }
 
 int64_t sp_drive_four(struct sp_party *coordinator, sp_callback call, void *with) {
@@ -360,18 +390,12 @@ int64_t sp_drive_four(struct sp_party *coordinator, sp_callback call, void *with
 }
 
 int64_t sp_reclaim(struct sp_party *coordinator, uint64_t serial, sp_callback call, void *with) {
-    int64_t answer, asked;
-    for (int64_t name = 0;;) {
-        SP_WAIT(name, sp_live_after(coordinator, (uint64_t)name));
-        if (name < 0) return name;
-        if (!name) break;
-        answer = sp_target(coordinator, (uint64_t)name);
-        if (answer < 0) return answer;
-    }
+    int64_t answer = sp_target_all(coordinator), asked;
+    if (answer < 0) return answer;
     SP_WAIT(asked, sp_reclaim_begin(coordinator, serial));
     if (asked < 0) return asked;
-    while (asked > 0 && (answer = sp_drive(coordinator, call, with)) != asked)
-        if (answer < 0) return answer;
+    answer = drive_to(coordinator, asked, call, with);
+    if (answer < 0) return answer;
     SP_WAIT(answer, sp_reclaim_end(coordinator, serial));
     return answer;
 }

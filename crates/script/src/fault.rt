@@ -1,3 +1,7 @@
+ghost use Rattle.std.specs.Prelude.{◌≡◌, Some};
+ghost use Rattle.script.specs.declared.fault.ScriptFault.TheVariants.{NoMemory};
+ghost use Rattle.script.specs.Texts.{fault_name, script_fault_text};
+
 use crate::place::Place;
 use std::alloc::{AllocError, AllocFailed};
 use std::error::Error;
@@ -36,13 +40,10 @@ pub enum ScriptFault {
 }
 
 impl fmt::Display for Fault {
-    ghost use Rattle.std.specs.Prelude.{Some};
-    ghost use Rattle.script.specs.Texts.{fault_name};
-
     ghost output = { λ fault. Some (fault_name fault) };
 
     fn fmt<W: fmt::Write>(&self, f: &mut fmt::Formatter<W>) -> fmt::Result {
-        let name = match self {
+        f.write_str(match self {
             Fault::TooLong => "TooLong",
             Fault::NotJson => "NotJson",
             Fault::BadShape => "BadShape",
@@ -52,21 +53,17 @@ impl fmt::Display for Fault {
             Fault::BadCall => "BadCall",
             Fault::BadLoop => "BadLoop",
             Fault::TooDeep => "TooDeep",
-        };
-        write!(f, "{name}")
+        })
     }
 }
 
 impl fmt::Display for ScriptFault {
-    ghost use Rattle.std.specs.Prelude.{Some};
-    ghost use Rattle.script.specs.Texts.{script_fault_text};
-
     ghost output = { λ fault. Some (script_fault_text fault) };
 
     fn fmt<W: fmt::Write>(&self, f: &mut fmt::Formatter<W>) -> fmt::Result {
         match self {
             ScriptFault::Refused { fault, place } => write!(f, "{fault} at {place}"),
-            ScriptFault::NoMemory => write!(f, "no memory"),
+            ScriptFault::NoMemory => f.write_str("no memory"),
         }
     }
 }
@@ -74,9 +71,6 @@ impl fmt::Display for ScriptFault {
 impl Error for ScriptFault {}
 
 impl From<AllocError> for ScriptFault {
-    ghost use Rattle.std.specs.Prelude.{◌≡◌};
-    ghost use Rattle.script.specs.declared.fault.ScriptFault.TheVariants.{NoMemory};
-
     ghost from_gives = { λ _ e. e ≡ NoMemory };
 
     fn from(_error: AllocError) -> ScriptFault {
@@ -85,9 +79,6 @@ impl From<AllocError> for ScriptFault {
 }
 
 impl<T: Drop> From<AllocFailed<T>> for ScriptFault {
-    ghost use Rattle.std.specs.Prelude.{◌≡◌};
-    ghost use Rattle.script.specs.declared.fault.ScriptFault.TheVariants.{NoMemory};
-
     ghost from_gives = { λ _ e. e ≡ NoMemory };
 
     fn from(_error: AllocFailed<T>) -> ScriptFault {

@@ -5,11 +5,11 @@ use std::fmt;
 
 impl fmt::Display for TellFault {
     fn fmt<W: fmt::Write>(&self, f: &mut fmt::Formatter<W>) -> fmt::Result {
-        match self {
-            TellFault::NothingOpen => write!(f, "no request is open"),
-            TellFault::NotOf => write!(f, "no open request is of the name"),
-            TellFault::AlreadyTold => write!(f, "the thread was told all that is open"),
-        }
+        f.write_str(match self {
+            TellFault::NothingOpen => "no request is open",
+            TellFault::NotOf => "no open request is of the name",
+            TellFault::AlreadyTold => "the thread was told all that is open",
+        })
     }
 }
 
@@ -17,16 +17,16 @@ impl Error for TellFault {}
 
 impl fmt::Display for HoldFault {
     fn fmt<W: fmt::Write>(&self, f: &mut fmt::Formatter<W>) -> fmt::Result {
-        match self {
-            HoldFault::NoSuchPlace => write!(f, "there is no such place"),
-            HoldFault::Vacant => write!(f, "no live thread has the place"),
-            HoldFault::NothingOpen => write!(f, "no request is open"),
-            HoldFault::NotOf => write!(f, "no open request is of the thread"),
-            HoldFault::NotTold => write!(f, "the thread was told no open request"),
-            HoldFault::AlreadyDone => write!(f, "the thread is done with all that it was told"),
-            HoldFault::Held => write!(f, "the thread is held"),
-            HoldFault::NotSafe => write!(f, "the thread is not at a safe point"),
-        }
+        f.write_str(match self {
+            HoldFault::NoSuchPlace => "there is no such place",
+            HoldFault::Vacant => "no live thread has the place",
+            HoldFault::NothingOpen => "no request is open",
+            HoldFault::NotOf => "no open request is of the thread",
+            HoldFault::NotTold => "the thread was told no open request",
+            HoldFault::AlreadyDone => "the thread is done with all that it was told",
+            HoldFault::Held => "the thread is held",
+            HoldFault::NotSafe => "the thread is not at a safe point",
+        })
     }
 }
 
@@ -34,11 +34,11 @@ impl Error for HoldFault {}
 
 impl fmt::Display for ReleaseFault {
     fn fmt<W: fmt::Write>(&self, f: &mut fmt::Formatter<W>) -> fmt::Result {
-        match self {
-            ReleaseFault::NoSuchPlace => write!(f, "there is no such place"),
-            ReleaseFault::Vacant => write!(f, "no live thread has the place"),
-            ReleaseFault::NotHeld => write!(f, "the thread is not held"),
-        }
+        f.write_str(match self {
+            ReleaseFault::NoSuchPlace => "there is no such place",
+            ReleaseFault::Vacant => "no live thread has the place",
+            ReleaseFault::NotHeld => "the thread is not held",
+        })
     }
 }
 
@@ -46,15 +46,15 @@ impl Error for ReleaseFault {}
 
 impl fmt::Display for ServeFault {
     fn fmt<W: fmt::Write>(&self, f: &mut fmt::Formatter<W>) -> fmt::Result {
-        match self {
-            ServeFault::NoSuchPlace => write!(f, "there is no such place"),
-            ServeFault::Vacant => write!(f, "no live thread has the place"),
-            ServeFault::NotHeld => write!(f, "the thread is not held"),
-            ServeFault::NothingOpen => write!(f, "no request is open"),
-            ServeFault::NotOf => write!(f, "no open handshake is of the thread"),
-            ServeFault::NotTold => write!(f, "the thread was told no open handshake"),
-            ServeFault::AlreadyDone => write!(f, "the thread is done with all that it was told"),
-        }
+        f.write_str(match self {
+            ServeFault::NoSuchPlace => "there is no such place",
+            ServeFault::Vacant => "no live thread has the place",
+            ServeFault::NotHeld => "the thread is not held",
+            ServeFault::NothingOpen => "no request is open",
+            ServeFault::NotOf => "no open handshake is of the thread",
+            ServeFault::NotTold => "the thread was told no open handshake",
+            ServeFault::AlreadyDone => "the thread is done with all that it was told",
+        })
     }
 }
 
@@ -62,19 +62,14 @@ impl Error for ServeFault {}
 
 impl fmt::Display for OperateFault {
     fn fmt<W: fmt::Write>(&self, f: &mut fmt::Formatter<W>) -> fmt::Result {
-        match self {
-            OperateFault::Refused(desk::OperateFault::NothingOpen) => {
-                write!(f, "no request is open")
-            }
-            OperateFault::Refused(desk::OperateFault::NotOf) => write!(f, "no census is open"),
-            OperateFault::Refused(desk::OperateFault::AlreadyDone) => {
-                write!(f, "the census is operated")
-            }
-            OperateFault::Refused(desk::OperateFault::NotAllHeld) => {
-                write!(f, "not all live threads are held")
-            }
-            OperateFault::NoMemory => write!(f, "no memory"),
-        }
+        f.write_str(match self {
+            OperateFault::Refused(desk::OperateFault::NothingOpen) => "no request is open",
+            OperateFault::Refused(desk::OperateFault::NotOf) => "no census is open",
+            OperateFault::Refused(desk::OperateFault::AlreadyDone) => "the census is operated",
+            OperateFault::Refused(desk::OperateFault::NotAllHeld) =>
+                "not all live threads are held",
+            OperateFault::NoMemory => "no memory",
+        })
     }
 }
 

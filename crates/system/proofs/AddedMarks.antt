@@ -1,4 +1,4 @@
--- Marks of one thread that are added, against what the system keeps of each thread.
+-- Added marks of one thread, and the numbers that the system keeps for each thread.
 use Rattle.std.proofs.Common.{◌≡◌, ◌∙◌, sym, refl, ℕ, Bool, true, false, ◌&&◌, eqb, List, arith}
 use Rattle.std.proofs.lemmas.Bool.Decides.{nat_tests}
 use Rattle.system.specs.declared.answers.Answer.{Answer}

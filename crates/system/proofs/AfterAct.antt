@@ -1,4 +1,4 @@
--- An act at a place: the system afterwards has what the world afterwards has.
+-- After an act at a place the system matches the world.
 use Rattle.std.proofs.Common.{◌≡◌, ◌≢◌, ◌∙◌, ◌<◌, sym, ap, refl, subst, ℕ, zero, suc, ◌||◌, ◌==◌, List, [], ◌∷◌, Option, Some, None, length, arith}
 use Rattle.std.specs.Prelude.{slice_get, slice_set, sum_by}
 use Rattle.std.proofs.lemmas.List.Sums.{sum_by-cons}
@@ -28,7 +28,7 @@ length_set [] i x = refl
 length_set (y ∷ ys) zero x = refl
 length_set (y ∷ ys) (suc i) x = ap suc (length_set ys i x)
 
--- names of a seated thread live exactly as before where its name stays
+-- the live names are unchanged if the thread keeps its name
 any_seat : (name : ℕ) (places : List (Option Thread)) (p : ℕ) (t u : Thread) → slice_get places p ≡ Some (Some t) → u.name ≡ t.name
     → Rattle.std.specs.List.list_any (λ (x : Thread). x.name == name) (threads (slice_set places p (Some u))) ≡ Rattle.std.specs.List.list_any (λ (x : Thread). x.name == name) (threads places)
 any_seat name [] p t u e same = cc
@@ -36,7 +36,7 @@ any_seat name (o ∷ os) zero t u e same = (let is : o ≡ Some t = cc in rw (is
 any_seat name (None ∷ os) (suc p) t u e same = any_seat name os p t u e same
 any_seat name (Some x ∷ os) (suc p) t u e same = ap (λ b. (x.name == name) || b) (any_seat name os p t u e same)
 
--- counts over the places stay where the thread's stay
+-- a code's sum over the places is unchanged if the thread's count is
 pub walk_seat : (places : List (Option Thread)) (p : ℕ) (t u : Thread) (code : CodeId) → slice_get places p ≡ Some (Some t) → part code u ≡ part code t → sum_by (part_at code) (slice_set places p (Some u)) ≡ sum_by (part_at code) places
 walk_seat [] p t u code e same = cc
 walk_seat (o ∷ os) zero t u code e same =
@@ -48,7 +48,7 @@ pub walk_same : (w : World) (p : ℕ) (t u : Thread) (e : Event) (a : Answer) (o
 walk_same w p t u e a None there same = refl
 walk_same w p t u e a (Some code) there same = walk_seat w.places p t u (id_of code) there (same (id_of code))
 
--- a system that differs in its places alone
+-- a system with other places
 pub record SameRest (s new : Core) : Type 0 where
   pub table : new.table ≡ s.table
   pub records : new.records ≡ s.records
@@ -57,7 +57,7 @@ pub record SameRest (s new : Core) : Type 0 where
   pub moment : new.moment ≡ s.moment
   pub requests : new.requests ≡ s.requests
 
--- what is at a place after another list was set there
+-- the thread at a place after a place was set
 kept_other : (ks : List (Option Kept)) (p q : ℕ) (k : Option Kept) → q ≢ p → kept_at (slice_set ks p k) q ≡ kept_at ks q
 kept_other ks p q k differ = ap held_at (get_set_other ks p q k differ)
 
@@ -70,7 +70,7 @@ thread_other ts p q t differ = ap found (get_set_other ts p q t differ)
 thread_same : (ts : List (Option Thread)) (p : ℕ) (t : Option Thread) → p < length ts → found (slice_get (slice_set ts p t) p) ≡ t
 thread_same ts p t low = ap found (get_set_same ts p t low)
 
--- all places after an entry at one of them
+-- all places match after an event at one of them
 pub places_set : (ks new : List (Option Kept)) (w v : World) (p : ℕ) (k : Option Kept) (t : Option Thread) → SamePlaces ks w → new ≡ slice_set ks p k → v.places ≡ slice_set w.places p t → p < length w.places
     → ((q : ℕ) (kept : Kept) (u : Thread) → q ≢ p → thread_at w q ≡ Some u → SameAt w q kept u → SameAt v q kept u) → SamePlace v p k t → SamePlaces new v
 places_set ks new w v p k t same is places low others own = record {
@@ -86,7 +86,7 @@ places_set ks new w v p k t same is places low others own = record {
       rw (kept_is, thread_is) (place_over w v q (kept_at ks q) (thread_at w q) (λ kept u there h. others q kept u differ there h) (same.each q))));
 }
 
--- a system that differs in its places and counts alone
+-- a system with other places and counts
 pub record SameOthers (s new : Core) : Type 0 where
   pub table : new.table ≡ s.table
   pub records : new.records ≡ s.records
@@ -94,7 +94,7 @@ pub record SameOthers (s new : Core) : Type 0 where
   pub moment : new.moment ≡ s.moment
   pub requests : new.requests ≡ s.requests
 
--- the thread and the counts after an act at its place
+-- the thread and the index after an act at its place
 pub record Counts (s new : Core) (w : World) (p : ℕ) (kept after : Kept) (t u : Thread) (e : Event) (a : Answer) : Type 0 where
   pub rest : SameOthers s new
   pub places : new.places.items ≡ slice_set s.places.items p (Some after)
@@ -128,7 +128,7 @@ counted_matches s new w p kept after t u e a m k =
       index = k.index;
     }
 
--- the thread after an act at its place that counts nothing
+-- the thread after an act at its place that leaves the index unchanged
 pub record Seats (s new : Core) (w : World) (p : ℕ) (kept after : Kept) (t u : Thread) (e : Event) (a : Answer) : Type 0 where
   pub rest : SameRest s new
   pub places : new.places.items ≡ slice_set s.places.items p (Some after)

@@ -1,4 +1,4 @@
--- What the open operation asks of a thread, by what the system keeps.
+-- The tests and searches of open operations for a thread give the same in the system as in the world.
 use Rattle.std.proofs.Common.{◌≡◌, ◌∙◌, sym, ap, subst, length, refl, true, false, not, ◌&&◌, ◌||◌, Bool, cond, Option, Some, None, List, [], ◌∷◌, ℕ, arith}
 use Rattle.std.specs.Prelude.{is_some, is_none, find, nat_le, nat_lt, ◌==◌, IsTrue, ◌↔◌}
 use Rattle.std.proofs.lemmas.Bool.Decides.{nat_tests}
@@ -42,7 +42,7 @@ not_true : (a : Bool) → not a ≡ true → a ≡ false
 not_true true h = cc
 not_true false h = refl
 
--- a thread is settled where its image is
+-- a thread is settled if and only if its image is
 pub settled_by : (image : ImageView) (t : Thread) (b : Bool) → SameImage image t → (IsTrue b ↔ IsSettled image) → is_settled t ≡ b
 settled_by image t true h iff =
     let s : IsSettled image = iff.0 refl in
@@ -59,7 +59,7 @@ settled_by image t false h iff = by_value (is_settled t) refl
         let none : next_code image ≡ None = next_is_left image t h ∙ none_of (next_change t) facts.1 in
         let bad : IsTrue false = iff.1 (closed, none_next image none) in cc
 
--- What the tests of the open operations say, by what the system keeps of them.
+-- A test of an open operation gives the same in the system as in the world.
 abbrev Agrees : (Open → Bool) → (Opened → Bool) → Kept → Requests → Type 0
 Agrees f g kept requests = (a : Open) (o : Opened) → SameOpen a kept requests o → g o ≡ f a
 
@@ -69,7 +69,7 @@ any_by f g kept requests same (a ∷ rest) (o ∷ os) h = rw (same a o h.0, any_
 any_by f g kept requests same [] (o ∷ os) h = absurd h
 any_by f g kept requests same (a ∷ rest) [] h = absurd h
 
--- What both searches find.
+-- Both searches find the same operation.
 abbrev pub SameFound : Kept → Requests → Option Open → Option Opened → Type 0
 SameFound kept requests None None = Unit {0}
 SameFound kept requests (Some a) (Some o) = SameOpen a kept requests o
@@ -122,7 +122,7 @@ uncleared_is kept requests a o h = by (is_marked requests.told o.number kept.nam
 pub awaited_is : (kept : Kept) (requests : Requests) → Agrees (awaited_by kept) (λ o. is_census o.request && not o.operated && is_marked requests.told o.number kept.name) kept requests
 awaited_is kept requests a o h = rw (h.told, ← h.request, ← h.operated) refl
 
--- The three events that serve, by what the system keeps: the tests, and then the one that is found.
+-- Finish, Clear and Hold by the system's numbers: first the tests, then the operation found.
 abbrev tests : {A : Type 0} → Bool → Bool → Bool → Verdict A → Verdict A
 tests empty of told rest = unless not empty refuse NothingOpen then unless of refuse NotOf then unless told refuse NotTold then rest
 
@@ -138,7 +138,7 @@ pub empty_length : {A : Type 0} (xs : List A) → (length xs == 0) ≡ is_empty 
 empty_length [] = refl
 empty_length (x ∷ xs) = grind (arith, nat_tests)
 
--- The one that is found does it.
+-- The operation found is done.
 pub finish_found : (opens : List Open) (kept : Kept) (requests : Requests) (t : Thread) (a : Open) (settled : Bool) → IsHere opens kept requests t → find (undone_by kept) opens ≡ Some a → is_settled t ≡ settled
     → in_found AlreadyDone (find (acts.is_undone requests kept.name) requests.opened) (acts.finish_in requests t)
     ≡ (unless settled refuse Unpublished then accepted (marks (record requests { done = with_mark requests.done a.number kept.name })) (Reply (reply_to a.request kept.image.frames)))
@@ -172,7 +172,7 @@ clear_found opens kept requests t a here is = on (find (uncleared_by kept) opens
         let done : is_marked requests.done a.number kept.name ≡ is_done a kept = subst (λ n. is_marked requests.done n kept.name ≡ is_done a kept) number (same.done told ∙ ap (λ x. is_done x kept) it) in
         rw (number, ← here.thread.name, done) refl
 
--- Where none is found, all are done, or cleared.
+-- Without an operation found, all are done or cleared.
 pub finish_none : (opens : List Open) (kept : Kept) (requests : Requests) (t : Thread) → IsHere opens kept requests t → find (undone_by kept) opens ≡ None
     → in_found AlreadyDone (find (acts.is_undone requests kept.name) requests.opened) (acts.finish_in requests t) ≡ refused AlreadyDone
 finish_none opens kept requests t here is = on (find (undone_by kept) opens) (find (acts.is_undone requests kept.name) requests.opened) (find_by (undone_by kept) (acts.is_undone requests kept.name) kept requests (undone_is kept requests) opens requests.opened here.opened) is
@@ -191,7 +191,6 @@ clear_none opens kept requests t here is = on (find (uncleared_by kept) opens) (
     on None (Some o) same e = absurd same
     on (Some b) y same e = cc
 
--- Hold.
 pub hold_is : (opens : List Open) (kept : Kept) (requests : Requests) (t : Thread) → IsHere opens kept requests t
     → acts.hold requests t ≡ tests (is_empty opens) (list_any (λ a. is_target a.request kept.name) opens) (list_any (told_by kept) opens)
     (unless list_any (uncleared_by kept) opens refuse AlreadyDone then unless not kept.held refuse Held then unless is_safe kept.state refuse NotSafe then accepted (becomes (record t { held = true })) Done)
@@ -205,7 +204,7 @@ hold_is opens kept requests t here = rw (
   any_by (uncleared_by kept) (acts.is_uncleared requests kept.name) kept requests (uncleared_is kept requests) opens requests.opened here.opened,
 ) refl
 
--- Take waits for a census.
+-- A Take is refused while a census is pending for the thread.
 pub awaits_is : (opens : List Open) (kept : Kept) (requests : Requests) (t : Thread) → IsHere opens kept requests t → awaits_census requests t.name ≡ list_any (awaited_by kept) opens
 awaits_is opens kept requests t here = rw (← here.thread.name) (any_by (awaited_by kept) (λ o. is_census o.request && not o.operated && is_marked requests.told o.number kept.name) kept requests (awaited_is kept requests) opens requests.opened here.opened)
 
@@ -215,7 +214,7 @@ take_goes w t free none = rw (free, none) refl
 pub take_waits : (w : World) (t : Thread) → t.held ≡ false → awaits_census w.requests t.name ≡ true → acts.does w TheActs.Take t ≡ refused NotDone
 take_waits w t free some = rw (free, some) refl
 
--- Where none that was told waits, the tests decide.
+-- Without a pending operation, the tests decide the refusal.
 idle_is : {A : Type 0} (empty of told : Bool) (rest : Verdict A) → rest ≡ refused AlreadyDone → tests empty of told rest ≡ refused (idle_refusal empty of told)
 idle_is true of told rest is = refl
 idle_is false false told rest is = refl
@@ -235,7 +234,7 @@ pub hold_idle : (opens : List Open) (kept : Kept) (requests : Requests) (t : Thr
 hold_idle opens kept requests t here none = hold_is opens kept requests t here ∙ idle_is (is_empty opens) (list_any (λ a. is_target a.request kept.name) opens) (list_any (told_by kept) opens)
     (unless list_any (uncleared_by kept) opens refuse AlreadyDone then unless not kept.held refuse Held then unless is_safe kept.state refuse NotSafe then accepted (becomes (record t { held = true })) Done) (rw none refl)
 
--- What waits was told, and what was told is open and of the thread.
+-- A pending operation was told; an operation that was told is open and has the thread as a target.
 told_pair : (kept : Kept) (requests : Requests) (a : Open) (o : Opened) → SameOpen a kept requests o → told_by kept a ≡ true → is_target a.request kept.name ≡ true
 told_pair kept requests a o h told = h.target (h.told ∙ told)
 
@@ -273,7 +272,7 @@ undone_waits opens kept requests t a here is = waits_of (undone_by kept) kept re
 pub uncleared_waits : (opens : List Open) (kept : Kept) (requests : Requests) (t : Thread) → IsHere opens kept requests t → list_any (uncleared_by kept) opens ≡ true → Waits kept opens
 uncleared_waits opens kept requests t here any = waits_of (uncleared_by kept) kept requests (λ b e. (both (was_told b kept) (nat_lt kept.marks.cleared b.number) e).0) opens requests.opened here.opened any
 
--- A handshake that is found undone lists the thread.
+-- An undone handshake lists the thread.
 listed_of : (kept : Kept) (requests : Requests) (opens : List Open) (os : List Opened) (a : Open) → OpenBy opens kept requests os → find (undone_by kept) opens ≡ Some a → is_census a.request ≡ false → list_any (λ x. lists x.request kept.name) opens ≡ true
 listed_of kept requests [] [] a h is handshake = cc
 listed_of kept requests [] (o ∷ os) a h is handshake = absurd h

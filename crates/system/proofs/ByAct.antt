@@ -1,4 +1,4 @@
--- A plain act at a place, by what the thread did.
+-- A plain act at a place, by the act of its thread.
 use Rattle.std.proofs.Common.{◌≡◌, ◌≢◌, ◌∙◌, sym, ap, refl, subst, ℕ, Bool, true, false, eqb, List, ◌∷◌, Some, arith}
 use Rattle.std.specs.Prelude.{slice_get, slice_set}
 use Rattle.std.proofs.lemmas.Bool.Decides.{nat_tests}
@@ -29,7 +29,7 @@ use Rattle.system.proofs.Outcomes.{seated}
 use Rattle.system.proofs.Logs.{IsQuiet, IsElsewhere}
 use Rattle.system.proofs.AfterAct.{SameRest, seated_matches}
 
--- an act is quiet in the log, and elsewhere at other places
+-- an act changes no number of the log, and no moment of other places
 pub act_quiet : (p : ℕ) (act : Act) (a : Answer) → IsQuiet (record { event = event.At p act; answer = a })
 act_quiet p act a = record { starts_none = refl; asks_none = refl; rounds_none = refl; invalidates_none = λ serial. refl; looks_none = λ serial place. refl }
 
@@ -110,7 +110,7 @@ timed p now Hold a m log is h = record { begun_is = h.begun_is; stored_is = h.st
 timed p now Release a m log is h = record { begun_is = h.begun_is; stored_is = h.stored_is }
 timed p now Stack a m log is h = record { begun_is = h.begun_is; stored_is = h.stored_is }
 
--- a refusal leaves the system
+-- a refusal leaves the system unchanged
 pub same_matches : (s new : Core) (w : World) → SameRest s new → new.places.items ≡ s.places.items → Matches s w → Matches new w
 same_matches s new w rest places m = record {
   slots = ap (λ tb. tb.slots) rest.table ∙ m.slots;
@@ -132,7 +132,7 @@ refused_in s new w e r said rest places m is says = record {
   matches = subst (λ v. Matches new (Rattle.system.specs.Runs.world_of w e v)) (sym is) (same_matches s new w rest places m);
 }
 
--- what is done at a place
+-- the outcome of an act at a place
 pub done_at : (w : World) (p : ℕ) (act : Act) (t : Thread) (v : Verdict Effect) → slice_get w.places p ≡ Some (Some t) → here w act t ≡ v → outcome w (event.At p act) ≡ lands w p v
 done_at w p act t v there is = rw there (ap (lands w p) is)
 
@@ -157,7 +157,7 @@ marks_stay Hold n requests m u kept t h = (refl, h)
 marks_stay Release n requests m u kept t h = (refl, h)
 marks_stay Stack n requests m u kept t h = (refl, h)
 
--- the counts that the thread published stay with those of its image
+-- the thread's published counts are unchanged if the image's counts are
 parts_stay : (kept after : Kept) (t u : Thread) → SameThread kept t → SameThread after u → SameBag after.image.counted kept.image.counted → (code : CodeId) → part code u ≡ part code t
 parts_stay kept after t u same now bag code = sym (now.image.counted code) ∙ (bag code ∙ same.image.counted code)
 

@@ -1,4 +1,4 @@
--- Each event comes to one of the cases.
+-- Each event is one of the cases.
 use Rattle.std.proofs.Common.{◌≡◌, ◌⊎◌, ℕ, suc, ◌+◌, ◌<◌, Bool, true, false, cond, List, [], ◌∷◌, ◌++◌, length, Option, Some, None, sym, refl, ap, inl, inr, subst, arith}
 use Rattle.std.specs.Prelude.{not, ◌||◌, ◌&&◌, ◌==◌, is_some, is_none, nat_lt, nat_le, slice_get, slice_set, option_map, find, filter}
 use Rattle.std.specs.List.{list_any}
@@ -37,7 +37,7 @@ use Rattle.system.proofs.Outcomes.{coded, with_request, with_operated, without_o
 use Rattle.system.proofs.EventCases.{Cases}
 use Rattle.system.proofs.Lists.{found_passes, find_place, any_at, filter_at}
 
--- A chain of tests: where one fails the event is refused.
+-- A chain of tests: the first that fails refuses the event.
 chain1 : {A : Type 0} (Q : Verdict A → Type 0) → ((r : Refusal) → Q (refused r)) → (a : Bool) (r : Refusal) (v : Verdict A) → (a ≡ true → Q v) → Q (unless a refuse r then v)
 chain1 Q stop true r v h = h refl
 chain1 Q stop false r v h = stop r
@@ -66,7 +66,7 @@ either_way : {A : Type 0} (Q : Verdict A → Type 0) (b : Bool) (v u : Verdict A
 either_way Q true v u h k = h refl
 either_way Q false v u h k = k refl
 
--- What the tests say.
+-- Facts from passed tests.
 quiet_of : (x y : Bool) → (not x || y) ≡ true → y ≡ false → x ≡ false
 quiet_of true true h k = k
 quiet_of true false h k = absurd (false≢true h)
@@ -98,7 +98,7 @@ pub empty_of : {A : Type 0} (xs : List A) → is_empty xs ≡ true → xs ≡ []
 empty_of [] h = refl
 empty_of (x ∷ xs) h = absurd (false≢true h)
 
--- The states from which these acts are lawful aren't safe.
+-- The states in which these acts are lawful aren't safe.
 java_unsafe : (s : State) → is_in_java s ≡ true → is_safe s ≡ false
 java_unsafe Vacant e = refl
 java_unsafe New e = absurd (false≢true e)
@@ -177,14 +177,14 @@ block_unsafe BlockedTrans e = refl
 block_unsafe (AtPoll b) e = absurd (false≢true e)
 block_unsafe (Serving b) e = refl
 
--- P holds of a verdict; of one of an act that lands.
+-- P holds of a verdict, or of the verdict of an act at a place.
 abbrev Comes : World → (Event → Answer → World → Type 0) → Event → Verdict World → Type 0
 Comes w P e v = P e (answer_of v) (world_of w e v)
 
 abbrev Lands : World → (Event → Answer → World → Type 0) → ℕ → Act → Verdict Effect → Type 0
 Lands w P p a v = Comes w P (event.At p a) (lands w p v)
 
--- A change of the state alone.
+-- An act that changes only the state.
 goes_by_move : (w : World) (P : Event → Answer → World → Type 0) → Cases w P → (p : ℕ) (a : Act) (t : Thread) (m : Move) → Acts w p t a → is_move a ≡ true → move_of a ≡ Some m → (t.held ≡ false) ⊎ (is_safe t.state ≡ false)
     → Lands w P p a (move_by t m)
 goes_by_move w P c p a t m acts is by free = on (step t.state m) refl
@@ -207,7 +207,7 @@ leaves_by_poll w P c p t acts some unsafe = on (cross t.state (is_none (poll_of 
     on None e = c.refuses (event.At p act.Leave) (refusal.Illegal t.state)
     on (Some s) e = c.leaves p t s (record { acts = acts; some = some; goes = e; unsafe = unsafe })
 
--- A call, after its tests.
+-- A call after its tests.
 calls_case : (w : World) (P : Event → Answer → World → Type 0) → Cases w P → (p : ℕ) (t : Thread) (method : ℕ) (serial : Option ℕ) → Calls w p t method serial → Lands w P p (act.Enter method serial) (calls w.codes t method serial)
 calls_case w P c p t method None h = c.interprets p t method h
 calls_case w P c p t method (Some serial) h = on (code_of w.codes serial) refl
@@ -224,7 +224,7 @@ calls_case w P c p t method (Some serial) h = on (code_of w.codes serial) refl
         (λ same. c.enters p t method serial code (record { calls = h; code_is = e; serial_is = serial_is; in_use = used_of code.state used; method_is = eqb-true code.method method same })))
         (λ unused. c.misses p t method serial code (record { calls = h; code_is = e; serial_is = serial_is; not_in_use = unused }))
 
--- What an act does, by the oldest open operation.
+-- An act of the oldest open operation.
 opened_case : (w : World) {A : Type 0} (Q : Verdict A → Type 0) → Q (refused refusal.NothingOpen) → (work : Opened → Verdict A) → ((opened : Opened) (others : List Opened) → w.requests.opened ≡ opened ∷ others → Q (work opened)) → Q (in_open w.requests.opened work)
 opened_case w Q stop work h = on w.requests.opened refl
   where
@@ -232,7 +232,7 @@ opened_case w Q stop work h = on w.requests.opened refl
     on [] e = stop
     on (o ∷ os) e = h o os e
 
--- By the oldest that passes, where there is one.
+-- An act of the oldest operation that passes, if any.
 found_case : (w : World) {A : Type 0} (Q : Verdict A → Type 0) (r : Refusal) → Q (refused r) → (test : Opened → Bool) (os : List Opened) (work : Opened → Verdict A)
     → ((o : Opened) → find test os ≡ Some o → ((i : ℕ) × (slice_get os i ≡ Some o)) → Q (work o)) → Q (in_found r (find test os) work)
 found_case w Q r stop test os work h = on (find test os) refl
@@ -330,7 +330,7 @@ start_case w P c = chain1 (Comes w P event.Start) (c.refuses event.Start) (not (
         (accepted (record w { places = slice_set w.places p (Some (new_thread (names_given w.log + 1))) }) (answer.Thread (names_given w.log + 1) p))
         (λ room. let v = vacant_is w.places p e in c.starts p (record { no_safepoint = s; least = e; vacant = v.1; low = v.0; room = ltb-true (names_given w.log) last_number room }))
 
--- An event that is one step: an Install where the method has no code in use, and every other event.
+-- An event of one step: every event but an Install over code in use.
 abbrev pub Simple : World → Event → Type 0
 Simple w (event.Install method) = in_use_for w.codes method ≡ None
 Simple w e = Unit {0}
@@ -346,7 +346,7 @@ install_case w P c method none = chain1 (Comes w P (event.Install method)) (c.re
         (λ room. subst (λ o. P (event.Install method) (answer.Code (next_serial w.codes)) (record w { codes = with_code (without_use w.codes o) method slot; log = record { event = event.Install method; answer = answer.Code (next_serial w.codes) } ∷ replaced o ++ w.log }))
         (sym none) (c.installs method slot (record { low_method = low; none_in_use = none; least = e; room = leb-true (next_serial w.codes) last_number room })))
 
--- An event of a code that isn't freed, or was given out.
+-- An event of an unfreed code, or of a code that was given out.
 code_case : (w : World) (Q : Verdict World → Type 0) → Q (refused refusal.Unknown) → (serial : ℕ) (work : Code → Verdict World)
     → ((code : Code) → unfreed w.codes serial ≡ Some code → code.serial ≡ serial → Q (work code)) → Q (of_code (unfreed w.codes serial) work)
 code_case w Q stop serial work h = on (unfreed w.codes serial) refl
@@ -355,13 +355,13 @@ code_case w Q stop serial work h = on (unfreed w.codes serial) refl
     on None e = stop
     on (Some code) e = h code e (eqb-true code.serial serial (and_parts (code.serial == serial) (takes_slot code.state) (found_passes (λ (x : Code). (x.serial == serial) && takes_slot x.state) w.codes code e)).0)
 
--- A census is opened alone.
+-- A census opens only while no operation is open.
 alone_of : (os : List Opened) (b : Bool) → b ≡ true → not (b && not (is_empty os)) ≡ true → os ≡ []
 alone_of [] b h k = refl
 alone_of (o ∷ os) true h k = absurd (false≢true k)
 alone_of (o ∷ os) false h k = absurd (false≢true h)
 
--- The oldest request that waits may be opened.
+-- The oldest waiting request may be opened.
 pub opens_of : (w : World) (oldest : Waiting) (others : List Waiting) → may_open w.requests ≡ true → w.requests.waiting ≡ oldest ∷ others → Opens w oldest others
 opens_of w oldest others may e =
     let a = and_parts (nat_lt (length w.requests.opened) 4 && not (is_safepoint w.requests)) (not (awaits_safepoint w.requests.waiting && not (is_empty w.requests.opened))) may in
@@ -380,7 +380,7 @@ close_case w P c number o at =
     (accepted (record w { requests = without_opened w o }) (answer.Closed o.number))
     (λ held over. c.closes number o (record { open_is = record { position = at.0; here = at.1 }; none_held = held; over = over }))
 
--- Each event, by its cases.
+-- Each event is proved by its cases.
 pub by_cases : (w : World) (P : Event → Answer → World → Type 0) → Cases w P → (e : Event) → Simple w e → P e (answer_to w e) (after w e)
 by_cases w P c (event.At p a) simple = at_case w P c p a (slice_get w.places p) refl
 by_cases w P c event.Start simple = start_case w P c
@@ -450,7 +450,7 @@ by_cases w P c (event.CodeState serial) simple = on (code_of w.codes serial) ref
 by_cases w P c (event.Resolve method) simple = chain1 (Comes w P (event.Resolve method)) (c.refuses (event.Resolve method)) (nat_lt method w.methods) refusal.NoSuchMethod (accepted w (code_or_none (in_use_for w.codes method)))
     (λ low. c.resolves method (ltb-true method w.methods low))
 
--- An event is an Install, or one step.
+-- An event is an Install or of one step.
 pub each_kind : (w : World) (P : Event → Type 0) → ((method : ℕ) → P (event.Install method)) → ((e : Event) → Simple w e → P e) → (e : Event) → P e
 each_kind w P installs others (event.Install method) = installs method
 each_kind w P installs others (event.At p a) = others (event.At p a) tt

@@ -1,4 +1,4 @@
--- The cells of the index: they stay right where the codes stay and each code is counted as before.
+-- The index stays right if the codes and their counts are unchanged.
 use Rattle.std.proofs.Common.{◌≡◌, ◌∙◌, ◌<◌, sym, ap, refl, subst, ℕ, zero, suc, true, eqb, List, Option, Some, None, arith}
 use Rattle.std.specs.Prelude.{slice_get, replicate}
 use Rattle.std.proofs.lemmas.List.{length-replicate}
@@ -34,7 +34,7 @@ count_here cells w h table serial code found =
     let self : eqb serial serial ≡ true = grind (arith, nat_tests) in
     ap (count_if serial) (h.here serial code (unfreed_code w.slots w.methods w.codes table serial code found) (unfreed_takes w.codes serial code found)) ∙ rw self refl
 
--- cells of no code
+-- cells without a code
 replicate_at : (n i : ℕ) (x y : Entry) → slice_get (replicate n x) i ≡ Some y → x ≡ y
 replicate_at zero i x y h = cc
 replicate_at (suc n) zero x y h = cc

@@ -1,4 +1,4 @@
--- A census: when it is refused, that the index answers it, and what the system has afterwards.
+-- A census: its refusals, its answer from the index, and the system after it.
 use Rattle.std.proofs.Common.{◌≡◌, ◌≢◌, ◌∙◌, ◌+◌, ◌<◌, ◌≤◌, sym, ap, ap₂, refl, subst, ℕ, zero, suc, Bool, true, false, not, ◌&&◌, ◌==◌, eqb, cond, List, [], ◌∷◌, Option, Some, None, length, map, arith}
 use Rattle.std.specs.Prelude.{slice_get, sum_by, filter, is_none, IsTrue, ◌↔◌}
 use Rattle.std.specs.List.{list_all, cons_option}
@@ -60,7 +60,7 @@ none_of : (o : Option CodeId) → is_none o ≡ true → o ≡ None
 none_of None h = refl
 none_of (Some code) h = cc
 
--- What an image's own test says.
+-- The test of an image.
 pub settled_test : (image : ImageView) (b : Bool) → (IsTrue b ↔ IsSettled image) → b ≡ not image.publishing && is_none (next_code image)
 settled_test image true iff = let s : IsSettled image = iff.0 refl in rw (s.0, counted_none image s.1) refl
 settled_test image false iff = by image.publishing (is_none (next_code image)) refl refl
@@ -70,7 +70,7 @@ settled_test image false iff = by image.publishing (is_none (next_code image)) r
     by false false e f = refl
     by false true e f = let bad : IsTrue false = iff.1 (e, none_next image (none_of (next_code image) f)) in cc
 
--- A test of all threads is one of all that the system keeps.
+-- A test of all the world's threads gives the same for the system's threads.
 abbrev Agree : (Kept → Bool) → (Thread → Bool) → Option Kept → Option Thread → Type 0
 Agree f g None None = Unit {0}
 Agree f g (Some kept) (Some t) = f kept ≡ g t
@@ -125,7 +125,7 @@ tests_refused w o true false true false e r h = cc
 tests_refused w o true false true true false r h = cc
 tests_refused w o true false true true true r h = cc
 
--- a census that isn't refused passed them
+-- an accepted census passed all tests
 record Passed (w : World) (o : Opened) (a b c d e : Bool) : Type 0 where
   is : tests w o a b c d e ≡ accepted (record w { requests = with_operated w o }) (answer.Census (census w))
   asked : a ≡ true
@@ -139,7 +139,7 @@ passed w o true false true false e h = cc
 passed w o true false true true false h = cc
 passed w o true false true true true h = record { is = refl; asked = refl; settled = refl }
 
--- What the world tests is what the system does.
+-- The tests of the world give the same in the system.
 module _ (s : Core) (w : World) (m : Matches s w) (open_ : Open) (k : Oldest open_ s.requests.opens w.requests.opened w) where
   outcome_is : outcome w event.Operate ≡ tests w k.o (is_census open_.request) open_.operated (list_all (holds_at is_held_kept) s.places.items) (list_all (holds_at is_quiet_kept) s.places.items) (list_all (holds_at is_settled_kept) s.places.items)
   outcome_is =
@@ -163,7 +163,7 @@ refused_by s w (open_ ∷ later) r m is h =
 pub operate_refused : (s : Core) (r : Refusal) → operate_refusal s.requests.opens s.places.items ≡ Some r → Does event.Operate s (answer.Refused r) s
 operate_refused s r h = refused_does s event.Operate r (λ w m. refused_by s w s.requests.opens r m refl h)
 
--- Entries as a census answers them.
+-- Entries as a census returns them.
 abbrev census_of : List Entry → List CodeCount
 census_of es = map (λ entry. record { serial = entry.serial; count = entry.count }) es
 
@@ -176,7 +176,7 @@ below_none (e ∷ es) least q r low =
     let other : eqb e.serial q ≡ false = (let x = r.0 in grind (arith, nat_tests)) in
     rw other (below_none es (e.serial + 1) q r.2 (let x = r.0 in omega arith))
 
--- Rising entries without zeros that count as the codes do are the codes' counts without zeros.
+-- Rising entries without zeros, with the counts of the codes, are the codes' counts without zeros.
 abbrev count_of : (Code → ℕ) → Option Code → ℕ
 count_of g None = 0
 count_of g (Some code) = g code
@@ -187,7 +187,7 @@ counted g code = record { serial = code.serial; count = g code }
 abbrev counts_of : (Code → ℕ) → List Code → List CodeCount
 counts_of g codes = filter (λ (c : CodeCount). not (c.count == 0)) (map (counted g) codes)
 
--- serials go by one from n
+-- serials rise by one from n
 abbrev AreFrom : ℕ → List Code → Type 0
 AreFrom n [] = Unit {0}
 AreFrom n (code ∷ codes) = (code.serial ≡ n) × AreFrom (n + 1) codes
@@ -249,7 +249,7 @@ from_one : (es : List Entry) → IsRisingFrom 0 es → count_in es 0 ≡ 0 → I
 from_one [] r none = tt
 from_one (e ∷ es) r none = rising_later e es 0 r (λ is. let now = count_now e es 0 is in let some = r.1 in absurd (omega (arith, now, some, none)))
 
--- What the cells of a serial count: nothing, or what one of them has.
+-- The cells of a serial together count nothing, or as much as one of them.
 abbrev share : ℕ → ℕ × ℕ → ℕ
 share q pair = cond (eqb pair.0 q) pair.1 0
 
@@ -334,7 +334,7 @@ untaken NotEntrant h = cc
 untaken Zombie h = cc
 untaken Freed h = refl
 
--- the cells of a serial count what its code has
+-- the cells of a serial together count as much as its code
 serial_counts : (s : Core) (w : World) → Matches s w → IsSound w → (q : ℕ) → Counting q (walk_of w (code_of w.codes q)) s.index
 serial_counts s w m sound q = by (code_of w.codes q) refl
   where
@@ -362,7 +362,7 @@ serial_counts s w m sound q = by (code_of w.codes q) refl
             let same : k ≡ o.0 = cc in
             let bad : false ≡ true = sym t ∙ (ap (λ (c : Code). takes_slot c.state) same ∙ o.2) in cc)))) (walk w (id_of k)) (unstood w sound q k e (untaken k.state t))
 
--- Pairs as entries: their counts by serial are the sums.
+-- The counts of pairs by serial are the sums of their entries.
 abbrev entries : List (ℕ × ℕ) → List Entry
 entries pairs = map (λ (pair : ℕ × ℕ). cell_of pair.0 pair.1) pairs
 
@@ -392,7 +392,7 @@ entries_count q least (pair ∷ pairs) r = by (entries_count q (pair.0 + 1) pair
         let none = none_below q (pair.0 + 1) pairs r.2 (omega (arith, same)) in omega (arith, none)
     by rest false h = omega (arith, rest)
 
--- The index answers the census where all are settled.
+-- The index gives the census if all threads are settled.
 census_is : (s : Core) (w : World) (counts : List CodeCount) → Matches s w → IsSound w → IsCensus s.index counts → list_all is_settled (threads w.places) ≡ true → counts ≡ census w
 census_is s w counts m sound k settled =
     let rising : IsRisingPairs 0 k.pairs = k.rising (λ q. (serial_counts s w m sound q).few) in

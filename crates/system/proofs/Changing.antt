@@ -49,7 +49,7 @@ use Rattle.system.proofs.Slots.{takes, two_slots}
 use Rattle.system.proofs.Seats.{get_set_same, get_set_other}
 use Rattle.system.proofs.Lists.{same_at}
 
--- what a change was
+-- an accepted change with its thread and code
 pub record WasChanged (s : Core) (w : World) (p slot serial : ℕ) (by : ℤ) (new : List (Option Kept)) : Type 0 where
   pub kept : Kept
   pub after : Kept
@@ -67,14 +67,14 @@ pub record WasChanged (s : Core) (w : World) (p slot serial : ℕ) (by : ℤ) (n
   pub moments : after.moments ≡ kept.moments
   pub places : new ≡ slice_set s.places.items p (Some after)
 
--- what the definitions say, by whether the thread publishes and what is next
+-- the verdict, by whether the thread publishes and which code is next
 abbrev says : Thread → Bool → Option CodeId → Verdict Effect
 says t b o =
     unless not b || true refuse Publishing then
     unless true refuse Illegal t.state then
     unless b refuse NotBegun then changes t o
 
--- what a thread answered to a change
+-- the thread's result of a change
 abbrev ok : Option CodeChange → Result (Option CodeChange) Refusal
 ok change = Ok change
 
@@ -96,7 +96,7 @@ none_changed change h = cc
 no_change : (code : CodeId) (t : Thread) → difference t code ≡ said_change None → ⊥
 no_change code t h = cc
 
--- the code that changed is the one that was next: no other code of the serial moves
+-- the next code changes, and no other code of the serial
 part_self : (t : Thread) (code : CodeId) → part code (changed_by t code) ≡ act code t.stack
 part_self t code = ap (λ b. cond (b || has_changed t code) (act code t.stack) (act code t.shown)) (same_refl code)
 
@@ -146,11 +146,11 @@ was_changed s w p change new m did = elim (at_place s w p m) [
           places = places;
         }
 
--- the world after it
+-- the world after a change
 abbrev pub changed_world : World → ℕ → Thread → CodeId → World
 changed_world w p t code = seated w p (Some (changed_by t code)) (event.At p Change) (difference t code)
 
--- one thread's count moves, and the sum with it
+-- the sum moves by the change of one thread's count
 walk_moved : (places : List (Option Thread)) (p : ℕ) (t u : Thread) (code : CodeId) → slice_get places p ≡ Some (Some t) → sum_by (part_at code) (slice_set places p (Some u)) + part code t ≡ sum_by (part_at code) places + part code u
 walk_moved [] p t u code h = cc
 walk_moved (o ∷ os) zero t u code h =
@@ -169,7 +169,7 @@ not_same code k differ = by (same_code code (id_of k)) refl
     by false e = e
     by true e = absurd (differ (sym (ap (λ (x : CodeId). x.serial) (same_is code (id_of k) e))))
 
--- the counts of other codes stay
+-- the counts of other codes are unchanged
 other_walk : (w : World) (p : ℕ) (t : Thread) (code : CodeId) (serial q : ℕ) → slice_get w.places p ≡ Some (Some t) → serial ≡ code.serial → q ≢ serial → walk_of (changed_world w p t code) (code_of w.codes q) ≡ walk_of w (code_of w.codes q)
 other_walk w p t code serial q there is differ = by (code_of w.codes q) refl
   where
@@ -186,7 +186,7 @@ module _ (s : Core) (w : World) (p slot serial : ℕ) (by : ℤ) (new : List (Op
   part_is : part c.code c.t ≡ act c.code c.t.shown
   part_is = ap (λ b. cond b (act c.code c.t.stack) (act c.code c.t.shown)) (left_is_new c.t c.code c.next)
 
-  -- the code has frames, or had them
+  -- the code has frames in the stack or in the shown stack
   code_live : IsSound w → IsLive w.codes c.code
   code_live sound = by_stack (act c.code c.t.stack) refl
     where
@@ -204,7 +204,7 @@ module _ (s : Core) (w : World) (p slot serial : ℕ) (by : ℤ) (new : List (Op
       let now = part_self c.t c.code in
       omega (arith, ints, moved, part_is, now, c.by_is)
 
-  -- the cell of the code
+  -- the code's cell
   cell_is : Matches s w → IsSound w → slice_get s.index slot ≡ Some (cell_of serial (walk w c.code))
   cell_is m sound =
       let live = code_live sound in
@@ -221,7 +221,7 @@ module _ (s : Core) (w : World) (p slot serial : ℕ) (by : ℤ) (new : List (Op
   pub of_serial : Matches s w → IsSound w → (cell : Cell) → slice_get s.index slot ≡ Some cell → cell.serial ≡ serial
   of_serial m sound cell at_slot = ap (λ (x : Cell). x.serial) (same_at s.index slot cell (cell_of serial (walk w c.code)) at_slot (cell_is m sound))
 
-  -- the count is as the index takes it
+  -- the new count is the index's count after the addition
   pub counts_to : Matches s w → IsSound w → pos (count_at s.index slot serial) +ℤ by ≡ pos (walk (changed_world w p c.t c.code) c.code)
   counts_to m sound = let was = counts_now m sound in rw was moves
 
@@ -237,7 +237,7 @@ module _ (s : Core) (w : World) (p slot serial : ℕ) (by : ℤ) (new : List (Op
       let long : length v.places ≡ length s.places.items = length_set w.places p (Some (changed_by c.t c.code)) ∙ sym m.places.lengths in
       omega (arith, ints, counts_to m sound, most, long, few)
 
-  -- the cells after it are those of the world after it
+  -- the cells match the world after the change
   cells_moved : Matches s w → IsSound w → (n : ℕ) → pos n ≡ pos (count_at s.index slot serial) +ℤ by → SameCells (slice_set s.index slot (cell_of serial n)) (changed_world w p c.t c.code)
   cells_moved m sound n moved = record {
     lengths = length_set s.index slot (cell_of serial n) ∙ m.index.lengths;
@@ -296,7 +296,7 @@ module _ (s : Core) (w : World) (p slot serial : ℕ) (by : ℤ) (new : List (Op
         elsewhere = λ q differ. act_elsewhere p q Change a differ;
       }))
 
--- a change that was the last, and one that was refused, leave the system
+-- a refused change, and one without a code left, leave the system unchanged
 rest_in : (s new : Core) (w : World) (p : ℕ) → Matches s w → SameRest s new → DidChange p s.places.items new.places.items (Ok None) → DoesIn (event.At p Change) answer.NoChange new w
 rest_in s new w p m rest did = elim (at_place s w p m) [
   | nowhere e x ↦ (let d = rw e at did in absurd (never None NoSuchPlace d.0))
@@ -336,7 +336,7 @@ refusal_in s new w p r m rest did = elim (at_place s w p m) [
     by kept after_ t e x places true None pub_is did = absurd (never did.0 r (sym did.1))
     by kept after_ t e x places true (Some code) pub_is did = absurd (never did.0 r (sym did.1))
 
--- each of them for every world
+-- each of these holds for every world
 count_length : (p : ℕ) (o : Option (Option Kept)) (old new : List (Option Kept)) (result : Result (Option CodeChange) Refusal) → DidCountAt p o old new result → length new ≡ length old
 count_length p None old new result d = ap length d.1
 count_length p (Some None) old new result d = ap length d.1

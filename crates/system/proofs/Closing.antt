@@ -1,4 +1,4 @@
--- Close: what it answers, and what the system has after it.
+-- Close: its answers, and the system after it.
 use Rattle.std.proofs.Common.{◌≡◌, ◌∙◌, ◌<◌, ◌≤◌, sym, ap, refl, subst, ℕ, zero, suc, Bool, true, false, not, ◌&&◌, ◌||◌, ◌==◌, eqb, List, [], ◌∷◌, Option, Some, None, map, arith}
 use Rattle.std.specs.Prelude.{slice_get, get_or, find, filter, remove, nat_le, nat_lt}
 use Rattle.std.specs.List.{list_any, list_all}
@@ -40,7 +40,7 @@ use Rattle.system.proofs.ThreeNumbers.{fewer_own}
 use Rattle.system.proofs.Pairs.{BothFound, pairs_of, find_pairs, pair_at, empty_same, opens_remove}
 use Rattle.system.proofs.Requesting.{Rerequests, IsOfRequests, asked_matches, sizes_stay, among_names, names_stay}
 
--- The thread at a place of the system and of the world.
+-- A place with its thread in the system and in the world.
 pub record Both (s : Core) (w : World) (p : ℕ) (kept : Kept) (t : Thread) : Type 0 where
   pub kept_there : slice_get s.places.items p ≡ Some (Some kept)
   pub there : slice_get w.places p ≡ Some (Some t)
@@ -64,7 +64,7 @@ all_here : {A : Type 0} (test : A → Bool) (xs : List A) → ((i : ℕ) (x : A)
 all_here test [] h = refl
 all_here test (x ∷ xs) h = rw (h 0 x refl) (all_here test xs (λ i y e. h (suc i) y e))
 
--- Held: some target, or none.
+-- Whether a target is held.
 held_kept : (open_ : Open) (o : Option Kept) → is_held_for open_ o ≡ true → (kept : Kept) × (o ≡ Some kept) × (kept.held && is_target open_.request kept.name ≡ true)
 held_kept open_ None h = absurd (false≢true h)
 held_kept open_ (Some kept) h = (kept, refl, h)
@@ -96,7 +96,7 @@ none_held s w open_ o m same h = all_here (λ (t : Thread). not (t.held && is_ta
     let free : b.0.held && is_target open_.request b.0.name ≡ false = any_none_at (is_held_for open_) s.places.items p.0 (Some b.0) h b.1.kept_there in
     ap not (held_is w open_ o p.0 b.0 t same b.1.same ∙ free)))
 
--- Over: all places are clear, or some live target isn't cleared.
+-- Whether all places are clear, or a live target isn't cleared.
 pub live_is : (w : World) (open_ : Open) (o : Opened) (p : ℕ) (kept : Kept) (t : Thread) → SameOpened open_ o w → slice_get w.places p ≡ Some (Some t) → SameAt w p kept t → is_live_target w o t.name ≡ is_live_for open_ kept
 live_is w open_ o p kept t same there at =
     let lives : is_live w t.name ≡ true = live_has w p t there in
@@ -110,7 +110,7 @@ live_is w open_ o p kept t same there at =
 abbrev pub clear_of : World → Opened → ℕ → Bool
 clear_of w o name = not (is_live_target w o name) || is_marked w.requests.cleared o.number name
 
--- For a live target the number tells.
+-- For a live target the number decides.
 cleared_is : (w : World) (i : ℕ) (o : Opened) (m : Marks) (name : ℕ) → IsSound w → slice_get w.requests.opened i ≡ Some o → SameMarks m w.requests name → among name o.live ≡ true → is_marked w.requests.cleared o.number name ≡ nat_le o.number m.cleared
 cleared_is w i o m name sound at marks live = by (is_marked w.requests.told o.number name) refl
   where
@@ -144,7 +144,7 @@ clear_is w i open_ o p kept t sound at same there mine = by (is_live_for open_ k
         let listed = (and_parts (among t.name o.live) (is_live w t.name) lives).0 in
         rw (lives, e, cleared_is w i o kept.marks t.name sound at mine.marks listed, ← same.number) (or_false (nat_le open_.number kept.marks.cleared))
 
--- A place is clear where it is vacant.
+-- A vacant place is clear.
 clear_where : (s : Core) (w : World) (i : ℕ) (open_ : Open) (o : Opened) → Matches s w → IsSound w → slice_get w.requests.opened i ≡ Some o → SameOpened open_ o w → list_all (clear_of w o) o.live ≡ true → list_all (is_clear_at open_) s.places.items ≡ true
 clear_where s w i open_ o m sound at same all = all_here (is_clear_at open_) s.places.items (λ p k e. by p k e)
   where
@@ -201,7 +201,7 @@ close_nothing s number none = refused_does s (event.Close number) refusal.Nothin
     by w None e = (let none_is : w.requests.opened ≡ [] = empty_of w.requests.opened e in rw none_is refl)
     by w (Some n) e = rw e refl
 
--- A search by number finds nothing in both lists, or the same operation.
+-- A search by number finds no operation in either list, or the same one in both.
 by_number : (n : ℕ) (s : Core) (w : World) → Matches s w → BothFound (λ a o. SameOpened a o w) (find (λ (a : Open). a.number == n) s.requests.opens) (find (λ (o : Opened). o.number == n) w.requests.opened)
 by_number n s w m = find_pairs (λ a o. SameOpened a o w) (λ (a : Open). a.number == n) (λ (o : Opened). o.number == n) (λ a o same. ap (λ k. k == n) (sym same.number)) s.requests.opens w.requests.opened
     (pairs_of (λ a o. SameOpened a o w) w s.requests.opens w.requests.opened m.opened (λ i a o at both. both))
@@ -216,7 +216,7 @@ one_found R None y a h e = cc
 one_found R (Some b) None a h e = absurd h
 one_found R (Some b) (Some o) a h e = let same : b ≡ a = cc in (o, refl, subst (λ z. R z o) same h)
 
--- A Close by number, where something is open.
+-- A Close by number, while an operation is open.
 of_number : (w : World) (n : ℕ) → is_empty w.requests.opened ≡ false → close_of w (Some n) ≡ in_found refusal.NotOf (find (λ (o : Opened). o.number == n) w.requests.opened) (close w)
 of_number w n some = on (is_empty w.requests.opened) (in_found refusal.NotOf (find (λ (o : Opened). o.number == n) w.requests.opened) (close w)) some
   where
@@ -232,7 +232,7 @@ close_not_of s (Some n) some none = refused_does s (event.Close (Some n)) refusa
     (by_number n s w m) (position_none (λ (a : Open). a.number == n) s.requests.opens none) in
     of_number w n some_is ∙ ap (λ o. in_found refusal.NotOf o (close w)) none_is))
 
--- What is read at the place that was found stands there.
+-- The item read at an index is there.
 read_at : {A : Type 0} (xs : List A) (i : ℕ) (x a : A) → slice_get xs i ≡ Some x → a ≡ get_or xs i a → slice_get xs i ≡ Some a
 read_at [] i x a h e = cc
 read_at (y ∷ ys) zero x a h e = ap Some (sym e)
@@ -243,7 +243,7 @@ found_there None [] at a some place e = absurd (false≢true (sym some))
 found_there None (b ∷ opens) at a some place e = let zero_ : 0 ≡ at = cc in subst (λ n. slice_get (b ∷ opens) n ≡ Some a) zero_ (ap Some (sym (e ∙ ap (λ n. get_or (b ∷ opens) n a) (sym zero_))))
 found_there (Some n) opens at a some place e = let f = position_found (λ (o : Open). o.number == n) opens at place in read_at opens at f.0 a f.1 e
 
--- The operation that a Close is of: it stands at one position in both lists.
+-- The operation of a Close has the same index in both lists.
 record IsClosed (s : Core) (w : World) (number : Option ℕ) (at : ℕ) (open_ : Open) : Type 0 where
   o : Opened
   here : slice_get w.requests.opened at ≡ Some o
@@ -286,7 +286,7 @@ close_early s number at open_ some place there free over = refused_does s (event
 of_close : (number : Option ℕ) (a : Answer) → IsOfRequests (event.Close number) a
 of_close number a = record { starts_none = refl; rounds_none = refl; invalidates_none = λ r. refl; looks_none = λ r place. refl; elsewhere = λ place. record { starts_not = refl; begins_not = refl; ends_not = refl } }
 
--- The others are of other numbers.
+-- The other operations have other numbers.
 without_one : (w : World) (at : ℕ) (o : Opened) → IsSound w → slice_get w.requests.opened at ≡ Some o → remove w.requests.opened at ≡ filter (λ (x : Opened). not (x.number == o.number)) w.requests.opened
 without_one w at o sound here = remove_one (λ (x : Opened). not (x.number == o.number)) w.requests.opened at o here own differ
   where

@@ -1,4 +1,4 @@
--- The events of codes: what they answer, and what the system has after them.
+-- The events of codes: their answers, and the system after them.
 use Rattle.std.proofs.Common.{◌≡◌, ◌≢◌, ◌∙◌, ◌+◌, ◌<◌, sym, ap, ap₂, refl, subst, ⊎_elim, ℕ, zero, suc, Bool, true, false, ◌&&◌, cond, List, [], ◌∷◌, ◌++◌, Option, Some, None, length, arith}
 use Rattle.std.specs.Prelude.{not, slice_get, slice_set, option_map, is_some, nat_lt, nat_le, sum_by, ◌==◌}
 use Rattle.std.proofs.lemmas.Bool.{eqb-true, eqb-false, false≢true, not-true, and_parts, and_cases}
@@ -44,7 +44,7 @@ use Rattle.system.proofs.Outcomes.{coded}
 use Rattle.system.proofs.Table.{code_serial, code_with_state, in_state_here, in_state_other, in_state_slot, unfreed_code, unfreed_takes}
 use Rattle.system.proofs.Logs.{IsElsewhere, names_next, operations_next, moment_next, left_next, looked_next, moments_next, place_over, opened_over, noted_matches}
 
--- An event does the same where its answer is another name of the same.
+-- An equal answer gives the same event.
 pub answered_as : (s t : Core) (e : Event) (a b : Answer) → a ≡ b → Does e s a t → Does e s b t
 answered_as s t e a b same does = subst (λ x. Does e s x t) same does
 
@@ -54,7 +54,7 @@ none_some e = cc
 pub same_some : {A : Type 0} {x y : A} → Some x ≡ Some y → x ≡ y
 same_some e = cc
 
--- An outcome that is known decides what is answered and what is after it.
+-- A known outcome decides the answer and the world after it.
 pub accepted_in : (s : Core) (w v : World) (e : Event) (a : Answer) → outcome w e ≡ accepted v a → Matches s (record v { log = entries w e a ++ w.log }) → DoesIn e a s w
 accepted_in s w v e a h m = record { answer = rw h refl; matches = rw h m }
 
@@ -64,7 +64,7 @@ refused_in s w e r h m = record { answer = rw h refl; matches = rw h m }
 pub refused_does : (s : Core) (e : Event) (r : Refusal) → ((w : World) → Matches s w → outcome w e ≡ refused r) → Does e s (answer.Refused r) s
 refused_does s e r h = record { each = λ w sound m. refused_in s w e r (h w m) m; sizes = record { places = refl; slots = refl; methods = refl } }
 
--- The system after a change of the codes: all but the table and the records stays.
+-- The system after a change of codes: only the table and the records change.
 pub record Recodes (s t : Core) (codes : List Code) : Type 0 where
   pub table : t.table ≡ record s.table { codes = codes }
   pub places : t.places ≡ s.places
@@ -72,7 +72,7 @@ pub record Recodes (s t : Core) (codes : List Code) : Type 0 where
   pub moment_is : t.moment ≡ s.moment
   pub requests : t.requests ≡ s.requests
 
--- An entry of an event of codes.
+-- A log entry of an event of codes.
 pub record IsOfCodes (e : Event) (a : Answer) : Type 0 where
   pub starts_none : is_start e ≡ false
   pub asks_none : is_ask e ≡ false
@@ -105,7 +105,7 @@ coded_matches s t w codes e a k q m records cells =
       index = cells;
     }
 
--- A record stays where the entry is no invalidation of its code and no look for it.
+-- A record is unchanged by an entry that is neither an invalidation nor a look of its code.
 pub record_next : (r : Record) (w : World) (codes : List Code) (e : Event) (a : Answer) (code : Code) → is_invalidate code.serial e ≡ false → ((place : ℕ) → (is_look code.serial place e && says_clear a) ≡ false)
     → SameRecord r w code → SameRecord r (coded w codes e a) code
 record_next r w codes e a code stays unlooked h = record {
@@ -113,7 +113,7 @@ record_next r w codes e a code stays unlooked h = record {
   looked_is = λ place lt. h.looked_is place lt ∙ sym (looked_next code.serial place (record { event = e; answer = a }) w.log (unlooked place));
 }
 
--- The code of a serial after a change of state: the code itself in the new state, or as it was.
+-- The code of a serial after a change of state: changed if it has the serial, otherwise the same.
 pub restated_at : {P : Type 0} (codes : List Code) (s : ℕ) (state : CodeState) (r : ℕ) (code : Code) → code_of (with_state codes s state) r ≡ Some code
     → ((k : Code) → code_of codes r ≡ Some k → k.serial ≡ s → code ≡ record k { state = state } → P) → (code.serial ≢ s → code_of codes r ≡ Some code → P) → P
 restated_at {P = P} codes s state r code found here other = by (code_of codes r) refl (sym (code_with_state codes s state r) ∙ found)
@@ -124,7 +124,7 @@ restated_at {P = P} codes s state r code found here other = by (code_of codes r)
         dite (ℕ_discrete k.serial s) (λ e. here k is e (sym same ∙ in_state_here s state k e))
         (λ e. (let was : k ≡ code = sym (in_state_other s state k e) ∙ same in other (λ x. e (ap (λ (y : Code). y.serial) was ∙ x)) (is ∙ ap Some was)))
 
--- A code that is retired or freed takes its record out of sight.
+-- A retired or freed code needs no record.
 pub restated_records : (records : List Record) (w : World) (s : ℕ) (state : CodeState) (e : Event) (a : Answer) → state ≢ NotEntrant
     → ((r : ℕ) → is_invalidate r e ≡ false) → ((r place : ℕ) → (is_look r place e && says_clear a) ≡ false) → SameRecords records w → SameRecords records (coded w (with_state w.codes s state) e a)
 restated_records records w s state e a differs stays unlooked h = record {
@@ -134,7 +134,7 @@ restated_records records w s state e a differs stays unlooked h = record {
       (λ ne was. record_next r w (with_state w.codes s state) e a code (stays code.serial) (unlooked code.serial) (h.each serial code r was is at_slot));
 }
 
--- A code takes its cell into another state, unless it is freed: then it counts nothing.
+-- A code keeps its cell in another state. A freed code must count nothing.
 pub restated_cells : (cells : List Cell) (w : World) (s : ℕ) (state : CodeState) (e : Event) (a : Answer) → ((k : Code) → code_of w.codes s ≡ Some k → takes_slot k.state ≡ true)
     → ((k : Code) → code_of w.codes s ≡ Some k → takes_slot state ≡ false → walk w (id_of k) ≡ 0) → SameCells cells w → SameCells cells (coded w (with_state w.codes s state) e a)
 restated_cells cells w s state e a taken none h = record {
@@ -185,7 +185,7 @@ next_unwalked w table threads c is = sum_none c w.places (λ p t x. by t (thread
     by t stacked shown true = zero_where (act c t.stack) (stacked c)
     by t stacked shown false = zero_where (act c t.shown) (shown c)
 
--- a free slot is that of no unfreed code
+-- a free slot has no unfreed code
 free_apart : (w : World) (slot : ℕ) → free_slot w.codes w.slots ≡ Some slot → (serial : ℕ) (k : Code) → code_of w.codes serial ≡ Some k → takes_slot k.state ≡ true → k.slot ≢ slot
 free_apart w slot least serial k found takes e =
     let place = find_place (λ (x : Code). x.serial == serial) w.codes k found in
@@ -196,7 +196,7 @@ free_apart w slot least serial k found takes e =
 slot_is_low : (w : World) (slot : ℕ) → free_slot w.codes w.slots ≡ Some slot → slot < w.slots
 slot_is_low w slot least = let place = find_place (λ s. not (is_taken w.codes s)) (below w.slots) slot least in below_low w.slots place.0 slot place.1
 
--- what the system may rely on where it places a code: the free slot's cell counts nothing, and its serial is less
+-- the cell of a free slot counts nothing, and its serial is less than the new one
 pub free_cell : (cells : List Cell) (w : World) (slot : ℕ) → free_slot w.codes w.slots ≡ Some slot → SameCells cells w → (cell : Cell) → slice_get cells slot ≡ Some cell → (cell.count ≡ 0) × (cell.serial < next_serial w.codes)
 free_cell cells w slot least h cell at_slot = (by cell.count refl, h.low slot cell at_slot)
   where
@@ -265,7 +265,7 @@ installed_records records w method slot a h = record {
     was : (serial : ℕ) (code : Code) → code_of (with_code w.codes method slot) serial ≡ Some code → code.state ≡ NotEntrant → code_of w.codes serial ≡ Some code
     was serial code found is = by serial code (code_of w.codes serial) refl found is
 
--- The table of the system is that of the world.
+-- The system's table is the world's.
 table_over : (t : TableView) (codes : List Code) (slots methods : ℕ) → t.codes ≡ codes → t.slots ≡ slots → t.methods ≡ methods → t ≡ record { codes = codes; slots = slots; methods = methods }
 table_over t codes slots methods a b c = rw (← a, ← b, ← c) refl
 
@@ -285,7 +285,7 @@ free_for s w slot serial m is at cell at_slot =
     let next : serial ≡ next_serial w.codes = at ∙ ap next_serial m.codes in
     (f.0, subst (λ n. cell.serial < n) (sym next) f.1)
 
--- What a fault of an install is refused with.
+-- The refusal for a fault of an install.
 abbrev pub install_refusal : InstallFault → Option Refusal
 install_refusal fault.NoSuchMethod = Some refusal.NoSuchMethod
 install_refusal fault.TableFull = Some refusal.TableFull
@@ -317,7 +317,7 @@ no_install s method f r h is = refused_does s (event.Install method) r (λ w m.
     install_refused w method (nat_lt method w.methods) (free_slot w.codes w.slots) (nat_le (next_serial w.codes) last_number) f r refl
     (ap (λ t. install_fault t method) (sym (table_is s w m)) ∙ h) is)
 
--- What an install that no test refuses comes to.
+-- The outcome of an accepted install.
 pub installs : (s : Core) (w : World) (method slot : ℕ) → Matches s w → install_fault s.table method ≡ None → free_slot s.table.codes s.table.slots ≡ Some slot
     → outcome w (event.Install method) ≡ accepted (record w { codes = with_code (without_use w.codes (in_use_for w.codes method)) method slot }) (answer.Code (next_serial w.codes))
 installs s w method slot m h is =
@@ -335,7 +335,7 @@ free_accepted w serial (Some k) e h = by (is_zombie k.state) refl h
     by true z h = rw (z, same) refl
     by false z h = let no = rw z at h in cc
 
--- a code that may not stand is counted nowhere
+-- a code whose frames may not stand has no counts
 pub unstood : (w : World) → IsSound w → (serial : ℕ) (k : Code) → code_of w.codes serial ≡ Some k → may_stand k.state ≡ false → walk w (id_of k) ≡ 0
 unstood w sound serial k found stands = sum_none (id_of k) w.places (λ p t x. by p t x (part (id_of k) t) refl)
   where
@@ -357,7 +357,7 @@ zombie_only (Some z) k is h = (let same : z ≡ k = cc in subst (λ (c : Code). 
     by Zombie h = refl
     by Freed h = cc
 
--- a code that is freed takes its slot and stands nowhere
+-- a freed code gives its slot free and has no counts
 freed_cells : (cells : List Cell) (w : World) (serial : ℕ) → IsSound w → free_fault (unfreed w.codes serial) ≡ None → SameCells cells w → SameCells cells (coded w (with_state w.codes serial Freed) (event.Free serial) answer.Done)
 freed_cells cells w serial sound h same = by (unfreed w.codes serial) refl h
   where
@@ -383,7 +383,7 @@ freed s t serial h k records index = record {
   sizes = record { places = ap (λ v. length v.items) k.places; slots = ap (λ (x : TableView). x.slots) k.table; methods = ap (λ (x : TableView). x.methods) k.table };
 }
 
--- A code's count is its walk.
+-- A code's count in the index is the world's.
 pub counted : (s : Core) (serial n : ℕ) (code : Code) → unfreed s.table.codes serial ≡ Some code → n ≡ count_at s.index code.slot serial → Does (event.Count serial) s (answer.Count n) s
 counted s serial n code is count_is = record {
   each = λ w sound m. (

@@ -1,4 +1,4 @@
--- What an event may come to: refused, or one of these. Every law over events goes by these cases.
+-- The cases of an event: it is refused, or one of these. Every law of events is proved by these cases.
 use Rattle.std.specs.Prelude.{◌≡◌, ℕ, ◌+◌, ◌<◌, true, false, List, Option, Some, None}
 use Rattle.frames.specs.declared.CodeId.{CodeId}
 use Rattle.thread_state.specs.declared.State.{State}

@@ -1,4 +1,4 @@
--- A thread leaves its place, and a stack is shown.
+-- The exit of a thread, and the answer to a Stack.
 use Rattle.std.proofs.Common.{◌≡◌, ◌∙◌, sym, ap, refl, ℕ, zero, suc, Bool, true, false, not, ◌||◌, ◌==◌, List, [], ◌∷◌, Option, Some, None, Result, Ok, Err, length, arith}
 use Rattle.std.specs.Prelude.{slice_get, slice_set, sum_by, IfOk, OnErr}
 use Rattle.std.specs.List.{list_any}
@@ -42,7 +42,7 @@ use Rattle.system.proofs.ByAct.{act_quiet, act_elsewhere, refused_in, timed}
 use Rattle.system.proofs.PlainActs.{nowhere, vacant, seat, at_place, accepted_in, here_yes}
 use Rattle.system.proofs.AddedMarks.{unless_yes}
 
--- what counts nothing leaves the counts as they are
+-- a thread without counts leaves the sums unchanged
 walk_empty : (places : List (Option Thread)) (p : ℕ) (t : Thread) (code : CodeId) → slice_get places p ≡ Some (Some t) → part code t ≡ 0 → sum_by (part_at code) (slice_set places p None) ≡ sum_by (part_at code) places
 walk_empty [] p t code e none = cc
 walk_empty (o ∷ os) zero t code e none =
@@ -58,7 +58,7 @@ or_right : (a b : Bool) → b ≡ true → a || b ≡ true
 or_right true b h = refl
 or_right false b h = h
 
--- who lives without the thread lived before
+-- a thread that lives after an exit lived before
 live_without : (name : ℕ) (places : List (Option Thread)) (p : ℕ) → list_any (λ (x : Thread). x.name == name) (threads (slice_set places p None)) ≡ true → list_any (λ (x : Thread). x.name == name) (threads places) ≡ true
 live_without name [] p h = h
 live_without name (None ∷ os) zero h = h
@@ -74,7 +74,7 @@ no_frames : (s : List Frame) (code : CodeId) → is_empty s ≡ true → act cod
 no_frames [] code h = refl
 no_frames (f ∷ fs) code h = cc
 
--- a thread that leaves counts nothing
+-- a thread that exits has no counts
 leaves_none : (w : World) (t : Thread) (a : Answer) → here w Exit t ≡ accepted leaves a → (code : CodeId) → part code t ≡ 0
 leaves_none w t a h code =
     let one = unless_yes (is_empty t.stack) StackNotEmpty _ leaves a (here_yes w Exit t leaves a h) in

@@ -43,7 +43,7 @@ use Rattle.system.proofs.Lists.{any_at, at_low, same_at, find_place}
 use Rattle.system.proofs.AskedOfThread.{SameFound, find_by, undone_is, uncleared_is}
 use Rattle.system.proofs.KeptOfThread.{is_here}
 
--- the system after marks were added for the thread at a place
+-- the system after marks are added for the thread at a place
 pub record Marks_added (s new : Core) (w : World) (p : ℕ) (kept after : Kept) (t : Thread) (requests : Requests) (e : Event) (a : Answer) : Type 0 where
   pub rest : SameRest s new
   pub places : new.places.items ≡ slice_set s.places.items p (Some after)

@@ -1,4 +1,4 @@
--- What a list of places has at a position.
+-- The item of a list of places at an index.
 use Rattle.std.proofs.Common.{◌≡◌, ◌<◌, sym, ap, refl, ℕ, zero, suc, List, [], ◌∷◌, Option, Some, None, Result, Err, length, get_or, set, arith}
 use Rattle.std.specs.Prelude.{slice_get, slice_set}
 use Rattle.frames.specs.declared.Change.{Change}
@@ -12,13 +12,13 @@ use Rattle.system.specs.declared.answers.Refusal.TheVariants.{Illegal}
 use Rattle.system.specs.Kept.Acts.{Lent}
 use Rattle.system.specs.Kept.Places.{DidAt, DidAct, DidChange, DidCount, answer_here}
 
--- an index in range finds what is read there
+-- an index in range has the item read there
 pub got : (ks : List (Option Kept)) (i : ℕ) (d k : Option Kept) → i < length ks → get_or ks i d ≡ k → slice_get ks i ≡ Some k
 got [] i d k lt e = absurd (omega arith)
 got (x ∷ ks) zero d k lt e = ap Some e
 got (x ∷ ks) (suc i) d k lt e = got ks i d k (omega arith) e
 
--- what is put back changes nothing
+-- storing the same item changes nothing
 pub put_back : (ks : List (Option Kept)) (i : ℕ) (k : Option Kept) → slice_get ks i ≡ Some k → slice_set ks i k ≡ ks
 put_back [] i k e = cc
 put_back (x ∷ ks) zero k e = (let is : x ≡ k = cc in ap (λ y. y ∷ ks) (sym is))

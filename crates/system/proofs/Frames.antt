@@ -1,4 +1,4 @@
--- Counts of frames, and what a publication has left to change.
+-- Counts of frames, and the codes that an open publication has left.
 use Rattle.std.proofs.Common.{◌≡◌, ◌≢◌, ℕ, zero, suc, ◌+◌, ◌<◌, ◌≤◌, Bool, true, false, cond, List, [], ◌∷◌, ◌++◌, length, take, Option, Some, None, sym, refl, ap, ◌∙◌, subst, arith}
 use Rattle.std.specs.Prelude.{not, ◌||◌, ◌==◌, filter, fold, count_by, is_some, is_none, unwrap_or}
 use Rattle.std.specs.List.{list_any}
@@ -38,7 +38,7 @@ take_less (suc n) (x ∷ xs) = let r = take_less n xs in omega arith
 pub act_length : (c : CodeId) (xs : List Frame) → act c xs ≤ length xs
 act_length c xs = count_by-le-length (is_of c) xs
 
--- The least of some codes that pass passes.
+-- The least of the codes that pass also passes.
 abbrev Passes : (CodeId → Bool) → Option CodeId → Type 0
 Passes test None = Unit {0}
 Passes test (Some c) = test c ≡ true
@@ -105,7 +105,7 @@ or_left : (x y : Bool) → x ≡ true → (x || y) ≡ true
 or_left true y h = refl
 or_left false y h = absurd (false≢true h)
 
--- What the next change is, and that nothing is left where there is none.
+-- The next change is of a code that is left, and without a next change no code is left.
 pub next_left : (t : Thread) (c : CodeId) → next_change t ≡ Some c → is_left t c ≡ true
 next_left t c h = subst (Passes (is_left t)) h (least_passes (is_left t) (codes_of t.stack ++ codes_of t.shown) None tt)
 
@@ -127,7 +127,7 @@ none_left t c h = by (is_left t c) refl
         let in_all = filter_has (is_left t) c (codes_of t.stack ++ codes_of t.shown) (somewhere (act c t.stack) (act c t.shown) refl refl differ) e in
         absurd (false≢true (ap (has c) (sym nothing) ∙ in_all))
 
--- Without an open publication the counts are those shown.
+-- Without an open publication the published counts are those of the shown stack.
 pub changed_quiet : (t : Thread) (c : CodeId) → is_publishing t ≡ false → has_changed t c ≡ false
 changed_quiet t c h = by t.changed h
   where
@@ -138,7 +138,7 @@ changed_quiet t c h = by t.changed h
 pub part_quiet : (c : CodeId) (t : Thread) → is_publishing t ≡ false → part c t ≡ act c t.shown
 part_quiet c t h = let e = changed_quiet t c h in rw e refl
 
--- A settled thread has shown what it has.
+-- A settled thread has the same counts in the stack and in the shown stack.
 pub settled_quiet : (t : Thread) → is_settled t ≡ true → is_publishing t ≡ false
 settled_quiet t h = not-true (is_publishing t) (and_parts (not (is_publishing t)) (is_none (next_change t)) h).0
 

@@ -1,4 +1,4 @@
--- A held thread is in a safe state, whatever happened.
+-- A held thread is in a safe state, after any events.
 use Rattle.std.proofs.Common.{ℕ, ◌+◌, Some, None, sym, ◌∙◌, ⊎_elim}
 use Rattle.std.specs.Prelude.{slice_set}
 use Rattle.std.proofs.lemmas.Bool.{false≢true}
@@ -13,7 +13,7 @@ use Rattle.method_table.specs.Codes.{id_of}
 use Rattle.system.proofs.EventCases.{Cases}
 use Rattle.system.proofs.Seats.{Each, each_some, each_none}
 
--- Each held thread is safe, by place.
+-- The thread at each place is in a safe state if held.
 abbrev pub AreSafe : World → Type 0
 AreSafe w = Each (λ p t. HeldIsSafe t) w.places
 

@@ -1,4 +1,4 @@
--- What an image shows of a thread, through each change of its stack and publication.
+-- An image matches its thread through each change of stack and publication.
 use Rattle.std.proofs.Common.{◌≡◌, ℕ, ◌+◌, ◌<◌, ◌∙◌, sym, Bool, true, false, not, ◌&&◌, ◌||◌, eqb, List, [], ◌∷◌, ◌++◌, Option, Some, None, refl, ap, ap₂, subst, cond, arith, pos, ◌-ℤ◌, take, length, ◌-◌}
 use Rattle.std.specs.Prelude.{filter, is_some, is_none}
 use Rattle.std.proofs.lemmas.Bool.Decides.{nat_tests}
@@ -60,7 +60,7 @@ back : (given : Bool) (f s : ℕ) → 0 < cond (not given && not (eqb f s)) (f +
 back true f s h = grind (arith, nat_tests)
 back false f s h = h
 
--- what the image changes next is what the thread has left
+-- the image's next code is the least that the thread has left
 pub next_is_left : (image : ImageView) (t : Thread) → SameImage image t → next_code image ≡ next_change t
 next_is_left image t h =
     let ours : List CodeId = uncounted image.frames image.counted in
@@ -70,7 +70,7 @@ next_is_left image t h =
     (λ code k. rw (times-uncounted image.frames image.counted code, h.counted code, h.frames) (back (has_changed t code) (act code t.stack) (act code t.shown) (rw (times-left t code) at k)))
     (least-is_least ours) (least-is_least theirs)
 
--- what is left isn't changed
+-- a code that is left hasn't changed yet
 pub left_is_new : (t : Thread) (code : CodeId) → next_change t ≡ Some code → has_changed t code ≡ false
 left_is_new t code h =
     let theirs : List CodeId = filter (is_left t) (codes_of t.stack ++ codes_of t.shown) in
@@ -89,7 +89,7 @@ part_step false among f s n here other = other refl
 same_code-sym : (a b : CodeId) → same_code a b ≡ false → same_code b a ≡ false
 same_code-sym a b h = grind (arith, nat_tests)
 
--- a counted change makes the code changed
+-- a change of the image is a change of the thread
 pub counted_is_changed : (old new : ImageView) (t : Thread) (change : Change) → SameImage old t → old.publishing ≡ true → Counts old new change → SameImage new (record t { changed = Some (change.code ∷ changed_codes t) })
 counted_is_changed old new t change h open_ counts = record {
   frames = counts.frames_stay ∙ h.frames;
@@ -99,7 +99,7 @@ counted_is_changed old new t change h open_ counts = record {
       (λ other. counts.others code (same_code-sym change.code code other) ∙ h.counted code);
 }
 
--- and by the difference
+-- the change has the thread's difference
 pub counted_by_difference : (old new : ImageView) (t : Thread) (change : Change) → SameImage old t → next_change t ≡ Some change.code → Counts old new change → change.by ≡ pos (act change.code t.stack) -ℤ pos (act change.code t.shown)
 counted_by_difference old new t change h next counts =
     let part_is : part change.code t ≡ act change.code t.shown = ap (λ b. cond b (act change.code t.stack) (act change.code t.shown)) (left_is_new t change.code next) in
@@ -112,7 +112,7 @@ stack_is old new xs ys e h = record { frames_are = h.frames_are ∙ e; counted_s
 pub take_front : (xs ys : List Frame) (y : Frame) → xs ≡ ys ++ y ∷ [] → ys ≡ take (length xs - 1) xs
 take_front xs ys y e = rw e (grind (arith, common_steps))
 
--- what an open publication has left is none where every code counts as on the stack, and else some
+-- an open publication has no code left if and only if every frame is counted
 pub is_settled_by : (image : ImageView) (t : Thread) → SameImage image t → is_settled t ≡ not image.publishing && is_none (next_code image)
 is_settled_by image t h = rw (next_is_left image t h, h.publishing) refl
 
@@ -135,6 +135,6 @@ uncounted_none image (Some code) all e =
     bad : (f s : ℕ) → f ≡ s → 0 < cond (not (eqb f s)) (f + s) 0 → ⊥
     bad f s same h = grind (arith, nat_tests)
 
--- where every code is counted, none changes next
+-- if every frame is counted, no code is next
 pub counted_none : (image : ImageView) → IsCounted image → next_code image ≡ None
 counted_none image all = uncounted_none image (next_code image) all refl

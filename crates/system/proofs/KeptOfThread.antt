@@ -1,4 +1,4 @@
--- What the system keeps of a thread says all that its acts ask.
+-- The system's state of a thread is enough for all its acts.
 use Rattle.std.proofs.Common.{◌≡◌, sym, subst, ℕ, true, List, [], ◌∷◌, Some}
 use Rattle.std.specs.Prelude.{slice_get}
 use Rattle.system.specs.declared.thread.Thread.{Thread as Kept}
@@ -24,7 +24,7 @@ opened_by kept requests (a ∷ opens) [] h = absurd h
 pub poll_here : (w : World) (place : ℕ) (kept : Kept) (t : Thread) → SameAt w place kept t → PollIs w.requests t kept
 poll_here w place kept t same = poll_is kept.marks w.requests t.name same.marks
 
--- An open operation, and what the thread's marks say of it.
+-- An open operation and the thread's marks for it.
 pub open_here : (s : Core) (w : World) (place : ℕ) (kept : Kept) (t : Thread) → Matches s w → IsSound w → slice_get w.places place ≡ Some (Some t) → SameAt w place kept t → Pairs (λ a o. SameOpen a kept w.requests o) s.requests.opens w.requests.opened
 open_here s w place kept t m sound there same = pairs_of (λ a o. SameOpen a kept w.requests o) w s.requests.opens w.requests.opened m.opened (λ i a o at both. same_open a o kept w i sound.marks at (sound.numbers.opened_is i o at).0 both marks lives)
   where
@@ -34,7 +34,7 @@ open_here s w place kept t m sound there same = pairs_of (λ a o. SameOpen a kep
     lives : is_live w kept.name ≡ true
     lives = subst (λ n. is_live w n ≡ true) (sym same.thread.name) (live_has w place t there)
 
--- What an act of the thread asks.
+-- The state that an act of the thread uses.
 pub is_here : (s : Core) (w : World) (place : ℕ) (kept : Kept) (t : Thread) → Matches s w → IsSound w → slice_get w.places place ≡ Some (Some t) → SameAt w place kept t → IsHere s.requests.opens kept w.requests t
 is_here s w place kept t m sound there same = record {
   thread = same.thread;

@@ -1,4 +1,4 @@
--- Lists by position: what stands where after a map, a push, or a search.
+-- Items of lists by index, after a map, a push or a search.
 use Rattle.std.proofs.Common.{◌≡◌, ◌⊎◌, ℕ, zero, suc, ◌+◌, ◌<◌, ◌≤◌, Bool, true, false, cond, List, [], ◌∷◌, ◌++◌, length, map, Some, None, sym, refl, ap, ◌∙◌, inl, inr, ⊎_elim, subst, arith}
 use Rattle.std.specs.Prelude.{slice_get, option_map, find, ◌||◌, ◌&&◌, filter}
 use Rattle.std.specs.List.{list_any, list_all, position, position_from, remove}
@@ -6,19 +6,19 @@ use Rattle.std.proofs.lemmas.Iterator.Adapters.{position_from-zero}
 use Rattle.std.proofs.lemmas.Bool.{false≢true, or_parts, and_parts, cases_lt}
 use Rattle.method_table.specs.Numbers.{below}
 
--- What an element of a mapped list is the image of.
+-- The source of an item of a mapped list.
 pub record IsImage {A B : Type 0} (f : A → B) (xs : List A) (i : ℕ) (y : B) : Type 0 where
   pub before : A
   pub at : slice_get xs i ≡ Some before
   pub is : f before ≡ y
 
--- What stands in a mapped list.
+-- The items of a mapped list.
 pub map_at : {A B : Type 0} (f : A → B) (xs : List A) (i : ℕ) (y : B) → slice_get (map f xs) i ≡ Some y → IsImage f xs i y
 map_at f [] i y h = cc
 map_at f (x ∷ xs) zero y h = let e : f x ≡ y = cc in record { before = x; at = refl; is = e }
 map_at f (x ∷ xs) (suc i) y h = let r = map_at f xs i y h in record { before = r.before; at = r.at; is = r.is }
 
--- What stands in a list with one element more.
+-- The items of a list after a push.
 pub push_at : {A : Type 0} (xs : List A) (y : A) (i : ℕ) (x : A) → slice_get (xs ++ y ∷ []) i ≡ Some x → (slice_get xs i ≡ Some x) ⊎ ((i ≡ length xs) × (y ≡ x))
 push_at [] y zero x h = let e : y ≡ x = cc in inr (refl, e)
 push_at [] y (suc i) x h = cc
@@ -46,7 +46,7 @@ at_low (y ∷ ys) (suc i) x h = let r = at_low ys i x h in omega arith
 pub same_at : {A : Type 0} (xs : List A) (i : ℕ) (x y : A) → slice_get xs i ≡ Some x → slice_get xs i ≡ Some y → x ≡ y
 same_at xs i x y h k = cc
 
--- What a search finds.
+-- The result of a search.
 pub found_passes : {A : Type 0} (test : A → Bool) (xs : List A) (x : A) → find test xs ≡ Some x → test x ≡ true
 found_passes test [] x h = cc
 found_passes test (y ∷ ys) x h = by (test y) refl h (found_passes test ys x)
@@ -72,7 +72,7 @@ find_none_at {A = A} test (y ∷ ys) i x h k = by (test y) refl h i k (find_none
     by false e n zero k rest = let same : y ≡ x = cc in ap test (sym same) ∙ e
     by false e n (suc i) k rest = rest i x n k
 
--- Where the first that passes stands, counted from k.
+-- The index of the first item that passes, counted from k.
 place_found : {A : Type 0} (test : A → Bool) (k : ℕ) (xs : List A) (i : ℕ) → position_from test k xs ≡ Some i → (j : ℕ) × (i ≡ k + j) × (x : A) × (slice_get xs j ≡ Some x) × (find test xs ≡ Some x)
 place_found test k [] i h = cc
 place_found {A = A} test k (y ∷ ys) i h = by (test y) h (place_found test (k + 1) ys i)
@@ -122,7 +122,7 @@ find_push_none test (z ∷ zs) y h = by (test z) h (find_push_none test zs y)
     by true k rest = cc
     by false k rest = rest k
 
--- Where some element passes, and where none does.
+-- The index of an item that passes, or none passes.
 pub any_none_at : {A : Type 0} (test : A → Bool) (xs : List A) (i : ℕ) (x : A) → list_any test xs ≡ false → slice_get xs i ≡ Some x → test x ≡ false
 any_none_at test [] i x h k = cc
 any_none_at test (y ∷ ys) zero x h k = let e : test y ≡ false = (or_parts (test y) (list_any test ys) h).0 in let same : y ≡ x = cc in ap test (sym same) ∙ e
@@ -170,13 +170,13 @@ below_has (suc n) x h = ⊎_elim (λ low. push_low (below n) n x x (below_has n 
     subst (λ m. slice_get (below n ++ n ∷ []) m ≡ Some x) same (push_here (below n) n ∙ ap Some is))
     (cases_lt x n)
 
--- Where an element that passes stands.
+-- The index of an item that passes.
 pub record Passes {A : Type 0} (test : A → Bool) (xs : List A) (x : A) : Type 0 where
   pub from : ℕ
   pub at : slice_get xs from ≡ Some x
   pub passes : test x ≡ true
 
--- What stands in a filtered list.
+-- The items of a filtered list.
 pub filter_at : {A : Type 0} (test : A → Bool) (xs : List A) (i : ℕ) (x : A) → slice_get (filter test xs) i ≡ Some x → Passes test xs x
 filter_at {A = A} test [] i x h = cc
 filter_at {A = A} test (y ∷ ys) i x h = by (test y) refl i h (filter_at test ys)
@@ -195,7 +195,7 @@ filter_less test (y ∷ ys) = by (test y) (filter_less test ys)
     by true h = omega arith
     by false h = omega arith
 
--- Where two elements stand, one before the other.
+-- Two items, one before the other.
 pub record InOrder {A : Type 0} (xs : List A) (a b : A) : Type 0 where
   pub first : ℕ
   pub second : ℕ
@@ -203,7 +203,7 @@ pub record InOrder {A : Type 0} (xs : List A) (a b : A) : Type 0 where
   pub at_first : slice_get xs first ≡ Some a
   pub at_second : slice_get xs second ≡ Some b
 
--- What a filter leaves is in order, and nothing that passes is left out.
+-- A filter keeps the order and every item that passes.
 pub filter_pair : {A : Type 0} (test : A → Bool) (xs : List A) (i j : ℕ) (a b : A) → i < j → slice_get (filter test xs) i ≡ Some a → slice_get (filter test xs) j ≡ Some b
     → InOrder xs a b
 filter_pair test [] i j a b low x y = cc
@@ -229,13 +229,13 @@ filter_has {A} test (z ∷ zs) (suc i) a x h = by (test z) (filter_has test zs i
     by true r = (suc r.0, r.1)
     by false r = r
 
--- Where the first that passes stands: nothing before it does.
+-- The index of the first item that passes: no item before it passes.
 pub record IsFirst {A : Type 0} (test : A → Bool) (xs : List A) (x : A) : Type 0 where
   pub place : ℕ
   pub at : slice_get xs place ≡ Some x
   pub none_before : (j : ℕ) (y : A) → j < place → slice_get xs j ≡ Some y → test y ≡ false
 
--- What a search finds is the first that passes.
+-- A search finds the first item that passes.
 pub find_before : {A : Type 0} (test : A → Bool) (xs : List A) (x : A) → find test xs ≡ Some x → IsFirst test xs x
 find_before test [] x h = cc
 find_before {A} test (z ∷ zs) x h = by (test z) refl h (λ k. find_before test zs x k)
@@ -249,7 +249,7 @@ find_before {A} test (z ∷ zs) x h = by (test z) refl h (λ k. find_before test
     by true e k rest = record { place = 0; at = k; none_before = λ j y low at. absurd (omega arith) }
     by false e k rest = let r = rest k in record { place = suc r.place; at = r.at; none_before = before r.place e r.none_before }
 
--- A search in what a filter leaves.
+-- A search in a filtered list.
 pub find_filter : {A : Type 0} (f g : A → Bool) (xs : List A) → find f (filter g xs) ≡ find (λ x. f x && g x) xs
 find_filter f g [] = refl
 find_filter {A} f g (x ∷ xs) = by (g x) (f x) refl (find_filter f g xs)
@@ -264,7 +264,7 @@ all_pass : {A : Type 0} (test : A → Bool) (xs : List A) → ((j : ℕ) (y : A)
 all_pass test [] h = refl
 all_pass {A} test (x ∷ xs) h = let e = h 0 x refl in rw e (ap (λ (ys : List A). x ∷ ys) (all_pass test xs (λ j y at. h (suc j) y at)))
 
--- Without the one that fails, where no other fails.
+-- A filter that only one item fails removes only this item.
 pub remove_one : {A : Type 0} (test : A → Bool) (xs : List A) (i : ℕ) (x : A) → slice_get xs i ≡ Some x → test x ≡ false → ((j : ℕ) (y : A) → slice_get xs j ≡ Some y → (j ≡ i → ⊥) → test y ≡ true) → remove xs i ≡ filter test xs
 remove_one test [] i x h out others = cc
 remove_one {A} test (z ∷ zs) zero x h out others =

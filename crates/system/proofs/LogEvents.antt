@@ -1,4 +1,4 @@
--- Events that change nothing but the log, and a round.
+-- Events that change only the log, and a round.
 use Rattle.std.proofs.Common.{◌≡◌, ◌∙◌, ◌<◌, ◌∷◌, sym, ap, refl, ℕ, ◌+◌, true, Option, Some, None, arith}
 use Rattle.std.specs.Prelude.{nat_lt, option_map}
 use Rattle.std.proofs.lemmas.Bool.Decides.{nat_tests}

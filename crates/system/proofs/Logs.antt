@@ -1,4 +1,4 @@
--- What one more entry of the log changes.
+-- The log with one more entry.
 use Rattle.std.proofs.Common.{◌≡◌, ◌∙◌, ◌+◌, ◌<◌, ◌≤◌, sym, ap, refl, subst, ℕ, true, false, ◌&&◌, cond, List, ◌∷◌, Option, Some, None, length, arith}
 use Rattle.method_table.specs.Codes.{code_of}
 use Rattle.system.specs.declared.events.Event.{Event}
@@ -19,7 +19,7 @@ use Rattle.system.proofs.Cells.{cells_stay}
 use Rattle.system.proofs.Frames.{count_cons}
 use Rattle.system.proofs.Outcomes.{noted}
 
--- the numbers that are counted in the log, with one entry more
+-- the numbers counted in the log with one more entry
 pub names_next : (entry : Entry) (log : List Entry) → names_given (entry ∷ log) ≡ cond (is_start entry.event) 1 0 + names_given log
 names_next entry log = count_cons (λ (e : Entry). is_start e.event) entry log
 
@@ -29,7 +29,7 @@ operations_next entry log = count_cons (λ (e : Entry). is_ask e.event) entry lo
 pub moment_next : (entry : Entry) (log : List Entry) → moment (entry ∷ log) ≡ cond (is_round entry.event) 1 0 + moment log
 moment_next entry log = omega (arith, count_cons (λ (e : Entry). is_round e.event) entry log)
 
--- an entry that counts nowhere, and isn't an invalidation or a look that was answered clear
+-- an entry that changes no number, and is no invalidation and no clear look
 pub record IsQuiet (entry : Entry) : Type 0 where
   pub starts_none : is_start entry.event ≡ false
   pub asks_none : is_ask entry.event ≡ false
@@ -37,7 +37,7 @@ pub record IsQuiet (entry : Entry) : Type 0 where
   pub invalidates_none : (serial : ℕ) → is_invalidate serial entry.event ≡ false
   pub looks_none : (serial place : ℕ) → is_look serial place entry.event && says_clear entry.answer ≡ false
 
--- an entry that isn't a Begin or an End of the place, and starts no thread there
+-- an entry that is no Begin or End at the place, and starts no thread there
 pub record IsElsewhere (place : ℕ) (entry : Entry) : Type 0 where
   pub starts_not : starts place entry.event entry.answer ≡ false
   pub begins_not : is_begin place entry.event ≡ false
@@ -67,14 +67,14 @@ ended_next place entry log h = rw (h.starts_not, h.ends_not) refl
 pub moments_next : (place : ℕ) (entry : Entry) (log : List Entry) (m : Rattle.system.specs.declared.thread.Moments.Moments) → IsElsewhere place entry → SameMoments m log place → SameMoments m (entry ∷ log) place
 moments_next place entry log m h same = record { begun_is = same.begun_is ∙ sym (begun_next place entry log h); stored_is = same.stored_is ∙ sym (ended_next place entry log h) }
 
--- what holds of each place goes over to another world
+-- a fact of each place also holds in another world
 pub place_over : (v w : World) (place : ℕ) (k : Option Kept) (o : Option Thread) → ((kept : Kept) (t : Thread) → o ≡ Some t → SameAt v place kept t → SameAt w place kept t) → SamePlace v place k o → SamePlace w place k o
 place_over v w place None None f h = tt
 place_over v w place (Some kept) (Some t) f h = f kept t refl h
 place_over v w place None (Some t) f h = absurd h
 place_over v w place (Some kept) None f h = absurd h
 
--- the records of codes stay
+-- the records of codes are unchanged
 pub records_next : (records : List Record) (v w : World) (entry : Entry) → IsQuiet entry → w.codes ≡ v.codes → w.slots ≡ v.slots → w.log ≡ entry ∷ v.log → length w.places ≡ length v.places → SameRecords records v → SameRecords records w
 records_next records v w entry q codes slots log places same = record {
   lengths = same.lengths ∙ sym slots;
@@ -86,11 +86,11 @@ records_next records v w entry q codes slots log places same = record {
       });
 }
 
--- the open operations stay
+-- the open operations are unchanged
 pub opened_over : (opens : List Open) (opened : List Opened) (v w : World) → names_given v.log ≤ names_given w.log → ((name : ℕ) → Rattle.system.specs.World.is_live w name ≡ true → Rattle.system.specs.World.is_live v name ≡ true) → SameOpens opens opened v → SameOpens opens opened w
 opened_over opens opened v w names live h = opens_over v w opens opened (λ i a o at same. record { number = same.number; request = same.request; operated = same.operated; names = omega (arith, same.names, names); live = λ name lives. same.live name (live name lives) }) h
 
--- an entry that changes nothing leaves what the system has
+-- the system still matches after an entry that changes nothing
 pub noted_matches : (s : Core) (w : World) (e : Event) (a : Answer) → IsQuiet (record { event = e; answer = a }) → ((place : ℕ) → IsElsewhere place (record { event = e; answer = a })) → Matches s w → Matches s (noted w e a)
 noted_matches s w e a q elsewhere m =
     let entry : Entry = record { event = e; answer = a } in

@@ -1,4 +1,4 @@
--- The order of entries in a log, read as a comparison of moments. Each law holds for every log.
+-- The order of log entries is a comparison of moments. Each law holds for every log.
 use Rattle.std.proofs.Common.{◌≡◌, ℕ, ◌+◌, ◌≤◌, Bool, true, false, cond, List, [], ◌∷◌, sym, refl, ap, ◌∙◌, subst, arith}
 use Rattle.std.specs.Prelude.{not, ◌||◌, ◌&&◌, nat_lt}
 use Rattle.std.specs.List.{count_by}
@@ -10,8 +10,7 @@ use Rattle.system.specs.Log.{Entry, is_invalidate, is_round, is_begin, is_end, h
 use Rattle.system.specs.Moments.{invalidated, left_at}
 use Rattle.system.proofs.Frames.{count_cons}
 
--- The moment of the last Begin of the place after the Start of the thread, and that of its last ended publication, 0 where
--- there is none.
+-- The moments of the last Begin at the place after the thread's Start, and of its last ended publication, or 0.
 abbrev pub begun_at : ℕ → ℕ → List Entry → ℕ
 begun_at place name [] = 0
 begun_at place name (entry ∷ log) = cond (is_begin place entry.event && has_started log name) (moment log) (begun_at place name log)
@@ -20,7 +19,7 @@ abbrev pub ended_at : ℕ → ℕ → List Entry → ℕ
 ended_at place name [] = 0
 ended_at place name (entry ∷ log) = cond (is_end place entry.event) (begun_at place name log) (ended_at place name log)
 
--- A thread that didn't start has none.
+-- A thread without a Start has no such moments.
 pub unstarted_begun : (place name : ℕ) (log : List Entry) → has_started log name ≡ false → begun_at place name log ≡ 0
 unstarted_begun place name [] h = refl
 unstarted_begun place name (entry ∷ log) h = let parts = or_parts _ (has_started log name) h in let rest = parts.1 in let b = and_right (is_begin place entry.event) (has_started log name) rest in
@@ -53,7 +52,7 @@ not_end s p (event.Invalidate r) h = refl
 not_end s p (event.At q a) h = absurd (false≢true h)
 not_end s p e h = absurd (false≢true h)
 
--- A round makes a new moment.
+-- A round begins a new moment.
 pub moment_step : (e : Entry) (log : List Entry) → moment (e ∷ log) ≡ cond (is_round e.event) (1 + moment log) (moment log)
 moment_step e log = let c = count_cons (λ (x : Entry). is_round x.event) e log in by (is_round e.event) c
   where
@@ -95,7 +94,7 @@ ended_by p name [] = omega arith
 ended_by p name (e ∷ log) = subst (λ m. ended_at p name (e ∷ log) ≤ m) (sym (moment_step e log))
     (ended_step (is_end p e.event) (is_round e.event) (moment log) (begun_at p name log) (ended_at p name log) (begun_by p name log) (ended_by p name log))
 
--- The tests of the order, from the last on.
+-- The tests of the order, the last first.
 abbrev pub Test : Type 0
 Test = Event → List Entry → Bool
 
@@ -181,18 +180,18 @@ end_step false false true ba ea n l g d x h k m = k
 end_step false true false ba ea n l g d x h k m = m
 end_step false false false ba ea n l g d x h k m = m
 
--- Invalidate, a Round, a Begin and an End stand in this order exactly where the ended publication's moment is above that of
--- the invalidation.
+-- An Invalidate, a Round, a Begin and an End come in this order if and only if the ended publication's moment is above
+-- the invalidation's.
 pub end_is : (s p name : ℕ) (log : List Entry) → is_published_since log s p name ≡ (invalidated s log && nat_lt (left_at s log) (ended_at p name log))
 end_is s p name [] = refl
 end_is s p name (e ∷ log) = one_step (ends_there p) (from_begin s p name) e log
     ∙ end_step (is_invalidate s e.event) (invalidated s log) (is_end p e.event) (in_order (from_begin s p name) log) (is_published_since log s p name) (moment log) (left_at s log) (begun_at p name log) (ended_at p name log)
     (not_end s p e.event) (ended_by p name log) (begin_is s p name log) (end_is s p name log)
 
--- How an entry that is no End of the place, or is one, changes the order.
+-- The order after an entry, by whether the entry is an End at the place.
 pub since_step : (s p name : ℕ) (e : Entry) (log : List Entry) → is_published_since (e ∷ log) s p name ≡ cond (is_end p e.event) (in_order (from_begin s p name) log) (is_published_since log s p name)
 since_step s p name e log = one_step (ends_there p) (from_begin s p name) e log
 
--- A code that wasn't invalidated isn't published since.
+-- Nothing is published since the invalidation of a code that wasn't invalidated.
 pub not_since : (s p name : ℕ) (log : List Entry) → invalidated s log ≡ false → is_published_since log s p name ≡ false
 not_since s p name log h = end_is s p name log ∙ (rw h refl)

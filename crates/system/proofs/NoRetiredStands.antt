@@ -1,4 +1,4 @@
--- No zombie or freed code stands on any stack; and covered is a comparison of moments.
+-- No frame of a zombie or freed code stands on a stack; and covered is a comparison of moments.
 use Rattle.std.proofs.Common.{◌≡◌, ℕ, ◌<◌, Bool, true, false, cond, List, [], ◌∷◌, Option, Some, None, sym, refl, ap, ◌∙◌, subst, arith}
 use Rattle.std.specs.Prelude.{not, ◌||◌, ◌&&◌, ◌==◌, nat_lt, slice_get}
 use Rattle.std.proofs.lemmas.Bool.{false≢true, ne_eqb, eq-eqb}
@@ -45,12 +45,12 @@ reclaimed_after w (e ∷ events) k n h =
     let r = in_steps AllIn (λ v a. a.kept_is.table) all_simply w e (record { kept_is = k; named = n; reclaim = h }) in
     reclaimed_after (after w e) events r.kept_is r.named r.reclaim
 
--- In every world that events lead to.
+-- This holds in every reachable world.
 pub reclaimed : (places slots methods : ℕ) (events : List Event)
     → IsReclaimed (world_after (start_world places slots methods) events).places (world_after (start_world places slots methods) events).codes (world_after (start_world places slots methods) events).log
 reclaimed places slots methods events = reclaimed_after (start_world places slots methods) events (kept_start places slots methods) (λ name z. absurd (false≢true z)) (reclaim_start places)
 
--- The code at a position is that of its serial.
+-- The code at an index is the code of its serial.
 pub code_at : (slots methods : ℕ) (codes : List Code) → TableIsSound slots methods codes → (i : ℕ) (k : Code) → slice_get codes i ≡ Some k → code_of codes k.serial ≡ Some k
 code_at slots methods codes h i k x = by (code_of codes k.serial) refl
   where
@@ -100,7 +100,7 @@ covered_is w h s p k is used = by (thread_at w p) refl
     by None x = refl
     by (Some t) x = let m = h.seats p t (there_of w p t x) in two t t.published m.ended_is m.closed
 
--- A place is covered as its thread's last publication says.
+-- A place is covered by its thread's last ended publication.
 pub covered_where : (w : World) → IsReclaimed w.places w.codes w.log → (s p : ℕ) (k : Code) (t : Thread) → code_of w.codes s ≡ Some k → is_in_use k.state ≡ false → thread_at w p ≡ Some t
     → covered w p s ≡ (not t.published || nat_lt (left_at s w.log) (ended p w.log))
 covered_where w h s p k t is used there =

@@ -1,4 +1,4 @@
--- The numbers of names, operations and moments are sound in every world that events lead to.
+-- The numbers of names, operations and moments are sound in every reachable world.
 use Rattle.std.proofs.Common.{◌≡◌, ◌⊎◌, ℕ, suc, ◌+◌, ◌<◌, ◌≤◌, Bool, true, false, cond, List, [], ◌∷◌, ◌++◌, length, map, Some, sym, refl, ap, ◌∙◌, inl, inr, ⊎_elim, subst, arith}
 use Rattle.std.specs.Prelude.{not, ◌==◌, nat_lt, slice_get, filter}
 use Rattle.std.proofs.lemmas.Bool.{false≢true, ltb-true, ltb-false}
@@ -41,7 +41,7 @@ operated_request n o = by (o.number == n)
     by true = refl
     by false = refl
 
--- Two open operations of one number are one.
+-- Two open operations with the same number are the same.
 pub only_number : {ws : List Waiting} {os : List Opened} {g n m : ℕ} → NumbersAreSound ws os g n m → (i j : ℕ) (a b : Opened) → slice_get os i ≡ Some a → slice_get os j ≡ Some b → a.number ≡ b.number → a ≡ b
 only_number {ws} {os} h i j a b x y same = dite (ℕ_discrete i j)
     (λ e. same_at os j a b (subst (λ k. slice_get os k ≡ Some a) e x) y)
@@ -116,7 +116,7 @@ opened_sound w oldest others g n m i h = record {
     rise j k a b less (inr x) (inl y) = let low = at_low w.requests.opened k b y in let is = x.0 in absurd (omega arith)
     rise j k a b less (inr x) (inr y) = let p = x.0 in let q = y.0 in absurd (omega arith)
 
--- Each event keeps the numbers sound.
+-- Each event preserves this.
 pub numbers_kept : (w : World) → NumbersAreSound w.requests.waiting w.requests.opened (names_given w.log) (operations_given w.log) (moment w.log)
     → Cases w (λ e a v. NumbersAreSound v.requests.waiting v.requests.opened (names_given v.log) (operations_given v.log) (moment v.log))
 numbers_kept w h = record {

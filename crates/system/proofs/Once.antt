@@ -30,7 +30,7 @@ use Rattle.system.proofs.SoundMarks.{marked_old, marked_new, only_open, first_op
 use Rattle.system.proofs.Safely.{handshakes_run}
 use Rattle.system.proofs.Sound.{IsKept, kept, kept_start, kept_after}
 
--- What is done stays done.
+-- A done operation stays done.
 abbrev DoneStays : Requests → Requests → Type 0
 DoneStays old new = (n name : ℕ) → is_marked old.done n name ≡ true → is_marked new.done n name ≡ true
 
@@ -87,7 +87,7 @@ done_after w (e ∷ events) n name k h =
     let r = in_steps (DoneIn n name) (λ v d. d.kept_is.table) (λ v d simple a. record { done = by_cases v (λ e a u. DoneStays v.requests u.requests) (done_stays v) d simple n name a.done; kept_is = kept v d a.kept_is }) w e (record { done = h; kept_is = k }) in
     done_after (after w e) events n name r.kept_is r.done
 
--- The operation was operated, where it is open, and isn't opened again.
+-- The operation was operated, if it is open, and doesn't open again.
 record Past (n : ℕ) (requests : Requests) (numbered : ℕ) : Type 0 where
   operated : (i : ℕ) (o : Opened) → slice_get requests.opened i ≡ Some o → o.number ≡ n → o.operated ≡ true
   was : WasOpened requests.waiting numbered n
@@ -162,7 +162,7 @@ past_after n w (e ∷ events) k h =
     let r = in_steps (PastIn n) (λ v d. d.kept_is.table) (λ v d simple a. record { past = by_cases v (λ e a u. Past n u.requests (operations_given u.log)) (past_kept n v a.kept_is a.past) d simple; kept_is = kept v d a.kept_is }) w e (record { past = h; kept_is = k }) in
     past_after n (after w e) events r.kept_is r.past
 
--- An accepted Operate is of the one that is open.
+-- An accepted Operate is of the only open operation.
 abbrev Operating : World → Event → Answer → World → Type 0
 Operating w event.Operate a v = is_accepted a ≡ true → (opened : Opened) × (others : List Opened) × (w.requests.opened ≡ opened ∷ others) × (opened.operated ≡ false) × Past opened.number v.requests (operations_given v.log)
 Operating w e a v = Unit {0}
@@ -222,7 +222,7 @@ operating w k = record {
   resolves = λ method i. tt;
 }
 
--- The worlds of a list cut in two.
+-- The worlds of a list of events that is cut in two.
 world_cut : (w : World) (before rest : List Event) → world_after w (before ++ rest) ≡ world_after (world_after w before) rest
 world_cut w [] rest = refl
 world_cut w (e ∷ before) rest = world_cut (after w e) before rest
@@ -236,7 +236,7 @@ one_next requests name a b x y = by (nat_lt a.number b.number) refl (nat_lt b.nu
     by false e true f = absurd (false≢true (sym y.not_done ∙ x.least y.position b y.is_open y.told (ltb-true b.number a.number f)))
     by false e false f = let p = ltb-false a.number b.number e in let q = ltb-false b.number a.number f in omega arith
 
--- The log tells who stands at a place.
+-- The log determines the thread at each place.
 abbrev Named : World → Type 0
 Named w = Each (λ p t. name_in p w.log ≡ t.name) w.places
 
@@ -297,7 +297,7 @@ named_after w (e ∷ events) k h =
     let r = in_steps NamedIn (λ v d. d.kept_is.table) (λ v d simple a. record { named = by_cases v (λ e a u. Named u) (named_kept v a.named) d simple; kept_is = kept v d a.kept_is }) w e (record { named = h; kept_is = k }) in
     named_after (after w e) events r.kept_is r.named
 
--- The log tells which operations are open.
+-- The log determines which operations are open.
 abbrev LogOpen : World → Type 0
 LogOpen w = open_in w.log ≡ map (λ (o : Opened). o.number) w.requests.opened
 

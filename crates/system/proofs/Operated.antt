@@ -1,4 +1,4 @@
--- An open operation that is operated is a census, and each live thread was told it.
+-- An open operation that is operated is a census, and was told to each live thread.
 use Rattle.std.proofs.Common.{◌≡◌, ◌∙◌, sym, ap, refl, subst, ℕ, ◌+◌, ◌<◌, ◌≤◌, true, ◌==◌, List, Some, None, length, ⊎_elim}
 use Rattle.std.specs.Prelude.{slice_set, not, replicate}
 use Rattle.std.proofs.lemmas.Bool.{false≢true}
@@ -18,7 +18,7 @@ use Rattle.system.proofs.Lists.{map_at, push_at, filter_at, any_none_at, all_at}
 use Rattle.system.proofs.Numbers.{operated_number, operated_request}
 use Rattle.system.proofs.SoundMarks.{threads_has, only_open, first_open, marked_old}
 
--- A thread that keeps its name at a place.
+-- The thread at a place keeps its name.
 seated_told : (w : World) (p : ℕ) (t u : Thread) → OperatedIsTold w.places w.requests → Stands w p t → u.name ≡ t.name → OperatedIsTold (slice_set w.places p (Some u)) w.requests
 seated_told w p t u h s name = record {
   census = h.census;
@@ -54,7 +54,7 @@ opened_told w oldest others h = record {
     not_new : (o : Opened) → newly_opened w oldest ≡ o → o.operated ≡ true → ⊥
     not_new o is operated = false≢true (ap (λ (y : Opened). y.operated) is ∙ operated)
 
--- A census is operated while all threads are held, and a held thread was told.
+-- All threads are held when a census is operated, and the census was told to each held thread.
 operated_told : (w : World) (g n : ℕ) (opened : Opened) (others : List Opened) → Operates w opened others → length w.requests.opened ≤ 1 → MarksAreSound w.places w.requests g n → OperatedIsTold w.places (Rattle.system.proofs.Outcomes.with_operated w opened)
 operated_told w g n opened others i few marks = record {
   census = λ j o e operated. (

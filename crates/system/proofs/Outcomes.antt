@@ -1,4 +1,4 @@
--- What an accepted event finds, and what the world is after it: one record for each kind of outcome.
+-- The conditions of each kind of accepted event, and the world after it: one record for each kind.
 use Rattle.std.specs.Prelude.{◌≡◌, ◌≢◌, ◌⊎◌, ℕ, pos, ◌-ℤ◌, ◌+◌, ◌<◌, ◌≤◌, Bool, true, false, not, ◌&&◌, ◌==◌, length, List, [], ◌∷◌, ◌++◌, map, filter, Option, Some, None, is_none, find, slice_get, slice_set}
 use Rattle.std.specs.List.{list_any}
 use Rattle.frames.specs.declared.CodeId.{CodeId}
@@ -27,8 +27,7 @@ use Rattle.system.specs.World.{World, live_names, is_live_target, vacant_place, 
 use Rattle.system.specs.Places.{is_lawful, go_or_stop, is_undone, is_uncleared}
 use Rattle.system.specs.Step.{unlooked, may_tell, all_threads, operated_if, is_over}
 
--- The world after an accepted event: nothing but the log changes; a place gets a thread or gets vacant; the codes change; the
--- requests change.
+-- The world after an accepted event: only the log changes; or also a place, the codes or the requests.
 abbrev pub noted : World → Event → Answer → World
 noted w e a = record w { log = record { event = e; answer = a } ∷ w.log }
 
@@ -63,7 +62,7 @@ held t = record t { held = true }
 abbrev pub released : Thread → Thread
 released t = record t { held = false }
 
--- The difference that a change answers.
+-- The difference in the answer to a change.
 abbrev pub difference : Thread → CodeId → Answer
 difference t code = answer.Changed code.serial (pos (stack.act code t.stack) -ℤ pos (stack.act code t.shown))
 
@@ -77,23 +76,23 @@ with_cleared requests opened name = record requests { cleared = with_mark reques
 abbrev pub with_told : Requests → Opened → ℕ → Requests
 with_told requests opened name = record requests { told = with_mark requests.told opened.number name }
 
--- A thread stands at a place.
+-- A thread is at a place.
 pub record Stands (w : World) (p : ℕ) (t : Thread) : Type 0 where
   pub there : slice_get w.places p ≡ Some (Some t)
   pub low : p < length w.places
 
--- A thread that isn't publishing acts in a state in which the act is lawful.
+-- A thread without an open publication acts in a state in which the act is lawful.
 pub record Acts (w : World) (p : ℕ) (t : Thread) (a : Act) : Type 0 where
   pub stands : Stands w p t
   pub quiet : is_publishing t ≡ false
   pub lawful : is_lawful a t ≡ true
 
--- A thread publishes.
+-- The thread at a place has an open publication.
 pub record Publishes (w : World) (p : ℕ) (t : Thread) : Type 0 where
   pub stands : Stands w p t
   pub publishing : is_publishing t ≡ true
 
--- The acts that change the state alone.
+-- The acts that change only the state.
 abbrev pub is_move : Act → Bool
 is_move act.Wake = true
 is_move act.Cross = true
@@ -105,7 +104,7 @@ is_move act.Block = true
 is_move act.Take = true
 is_move other = false
 
--- The move of such an act that doesn't poll.
+-- The move of such an act, none if the act polls.
 abbrev pub move_of : Act → Option Move
 move_of act.Wake = Some move.Wake
 move_of act.ToVm = Some move.ToVm
@@ -114,7 +113,7 @@ move_of act.Block = Some move.Block
 move_of act.Take = Some move.Take
 move_of other = None
 
--- A thread comes into another state by a move, or by a poll.
+-- A thread changes its state by a move or by a poll.
 pub record ByMove (w : World) (a : Act) (t : Thread) (state : State) (given : Answer) : Type 0 where
   pub by : Move
   pub is : move_of a ≡ Some by
@@ -139,7 +138,7 @@ pub record Ends (w : World) (p : ℕ) (t : Thread) : Type 0 where
   pub publishes : Publishes w p t
   pub none : next_change t ≡ None
 
--- A call that is let to its method.
+-- A call that passed its tests.
 pub record Calls (w : World) (p : ℕ) (t : Thread) (method : ℕ) (serial : Option ℕ) : Type 0 where
   pub acts : Acts w p t (act.Enter method serial)
   pub low_method : method < w.methods
@@ -171,12 +170,12 @@ pub record Exits (w : World) (p : ℕ) (t : Thread) : Type 0 where
   pub settled : is_settled t ≡ true
   pub nothing_told : poll_of w.requests t.name ≡ None
 
--- Its open operation, at some position.
+-- An open operation with its index.
 pub record IsOpen (w : World) (opened : Opened) : Type 0 where
   pub position : ℕ
   pub here : slice_get w.requests.opened position ≡ Some opened
 
--- The least told one that isn't done, or isn't cleared, for the thread.
+-- The least operation told to the thread that isn't done, or isn't cleared.
 pub record Finishes (w : World) (p : ℕ) (t : Thread) (opened : Opened) : Type 0 where
   pub acts : Acts w p t act.Finish
   pub listed : list_any (λ o. lists o.request t.name) w.requests.opened ≡ true
@@ -194,7 +193,7 @@ pub record Clears (w : World) (p : ℕ) (t : Thread) (opened : Opened) : Type 0 
   pub done : is_marked w.requests.done opened.number t.name ≡ true
   pub not_cleared : is_marked w.requests.cleared opened.number t.name ≡ false
 
--- Some one is told and not cleared.
+-- An operation is told and not cleared.
 pub record Holds (w : World) (p : ℕ) (t : Thread) (opened : Opened) : Type 0 where
   pub acts : Acts w p t act.Hold
   pub open_is : IsOpen w opened
@@ -220,7 +219,7 @@ pub record Installs (w : World) (method slot : ℕ) : Type 0 where
   pub least : free_slot w.codes w.slots ≡ Some slot
   pub room : next_serial w.codes ≤ last_number
 
--- The code of a serial, not freed, in a state.
+-- The unfreed code of a serial, in this state.
 pub record IsCode (w : World) (serial : ℕ) (code : Code) (state : CodeState) : Type 0 where
   pub found : unfreed w.codes serial ≡ Some code
   pub serial_is : code.serial ≡ serial
@@ -257,7 +256,7 @@ pub record Opens (w : World) (oldest : Waiting) (others : List Waiting) : Type 0
   pub alone : is_census oldest.request ≡ true → w.requests.opened ≡ []
   pub waiting_is : w.requests.waiting ≡ oldest ∷ others
 
--- The least one that has the name as a live target and wasn't told to it.
+-- The least operation that has the thread as a live target and wasn't told to it.
 pub record Tells (w : World) (name : ℕ) (opened : Opened) : Type 0 where
   pub least : find (λ o. not (is_marked w.requests.told o.number name)) (filter (λ o. is_live_target w o name) w.requests.opened) ≡ Some opened
   pub open_is : IsOpen w opened

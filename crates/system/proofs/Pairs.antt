@@ -1,4 +1,4 @@
--- The open operations that the system keeps, one for one with those of the definitions.
+-- The open operations of the system match those of the world one for one.
 use Rattle.std.proofs.Common.{◌≡◌, sym, ap, refl, subst, Bool, true, false, cond, List, [], ◌∷◌, ◌++◌, Option, Some, None, ℕ, zero, suc, length}
 use Rattle.std.specs.Prelude.{find, slice_get, remove}
 use Rattle.std.specs.List.{list_any}
@@ -9,7 +9,7 @@ use Rattle.system.specs.Operations.{Opened}
 use Rattle.system.specs.World.{World}
 use Rattle.system.specs.Marking.{SameOpened, SameOpens}
 
--- Each of one list and the one at its position in the other are so related.
+-- The items of both lists at the same index have this relation.
 abbrev pub Pairs : (Open → Opened → Type 0) → List Open → List Opened → Type 0
 Pairs R [] [] = Unit {0}
 Pairs R (a ∷ xs) (o ∷ os) = R a o × Pairs R xs os
@@ -27,7 +27,7 @@ any_pairs R f g same (a ∷ xs) (o ∷ os) h = rw (same a o h.0, any_pairs R f g
 any_pairs R f g same [] (o ∷ os) h = absurd h
 any_pairs R f g same (a ∷ xs) [] h = absurd h
 
--- What a search finds in both.
+-- The results of a search in both lists.
 abbrev pub BothFound : (Open → Opened → Type 0) → Option Open → Option Opened → Type 0
 BothFound R None None = Unit {0}
 BothFound R (Some a) (Some o) = R a o
@@ -51,7 +51,7 @@ empty_pairs R (a ∷ xs) (o ∷ os) h = refl
 empty_pairs R [] (o ∷ os) h = absurd h
 empty_pairs R (a ∷ xs) [] h = absurd h
 
--- The oldest of both, and the later ones.
+-- The oldest operation of both lists, and the later ones.
 pub record Oldest (a : Open) (opens : List Open) (os : List Opened) (w : World) : Type 0 where
   pub o : Opened
   pub later : List Open
@@ -66,7 +66,7 @@ oldest_of [] os w a h e = cc
 oldest_of (b ∷ xs) [] w a h e = absurd h
 oldest_of (b ∷ xs) (o ∷ os) w a h e = let same : b ≡ a = cc in record { o = o; later = xs; others = os; opens_are = ap (λ y. y ∷ xs) same; is = refl; same = subst (λ y. SameOpened y o w) same h.0; rest = h.1 }
 
--- The one at a position of both.
+-- The operation of both lists at an index.
 pub pair_at : (opens : List Open) (os : List Opened) (w : World) (i : ℕ) (a : Open) → SameOpens opens os w → slice_get opens i ≡ Some a → (o : Opened) × (slice_get os i ≡ Some o) × SameOpened a o w
 pair_at [] os w i a h e = cc
 pair_at (b ∷ xs) [] w i a h e = absurd h
@@ -78,7 +78,7 @@ none_open [] [] w h e = refl
 none_open [] (o ∷ os) w h e = absurd h
 none_open (a ∷ xs) os w h e = cc
 
--- What holds of both stays, in another world, and with one pair more.
+-- The relation still holds in another world, and after one more pair.
 pub opens_over : (v w : World) (xs : List Open) (os : List Opened) → ((i : ℕ) (a : Open) (o : Opened) → slice_get os i ≡ Some o → SameOpened a o v → SameOpened a o w) → SameOpens xs os v → SameOpens xs os w
 opens_over v w [] [] f h = tt
 opens_over v w (a ∷ xs) (o ∷ os) f h = (f 0 a o refl h.0, opens_over v w xs os (λ i b p at. f (suc i) b p at) h.1)
@@ -91,7 +91,7 @@ opens_push w (b ∷ xs) (p ∷ os) a o h new = (h.0, opens_push w xs os a o h.1 
 opens_push w [] (p ∷ os) a o h new = absurd h
 opens_push w (b ∷ xs) [] a o h new = absurd h
 
--- Tests and searches that go by what both have in common.
+-- Tests and searches give the same in both lists.
 pub any_same : (w : World) (f : Open → Bool) (g : Opened → Bool) → ((a : Open) (o : Opened) → SameOpened a o w → g o ≡ f a) → (xs : List Open) (os : List Opened) → SameOpens xs os w → list_any g os ≡ list_any f xs
 any_same w f g same xs os h = any_pairs (λ a o. SameOpened a o w) f g same xs os (pairs_of (λ a o. SameOpened a o w) w xs os h (λ i a o at both. both))
 
@@ -104,7 +104,7 @@ same_length w (a ∷ xs) (o ∷ os) h = ap suc (same_length w xs os h.1)
 same_length w [] (o ∷ os) h = absurd h
 same_length w (a ∷ xs) [] h = absurd h
 
--- Both without the one at a position.
+-- Both lists without the operation at an index.
 pub opens_remove : (w : World) (xs : List Open) (os : List Opened) (i : ℕ) → SameOpens xs os w → SameOpens (remove xs i) (remove os i) w
 opens_remove w [] [] zero h = h
 opens_remove w [] [] (suc i) h = h

@@ -1,4 +1,4 @@
--- A plain act at a place does what the definitions say.
+-- A plain act at a place follows the definitions.
 use Rattle.std.proofs.Common.{◌++◌, ◌≡◌, ◌∙◌, sym, ap, refl, subst, ℕ, zero, suc, not, ◌||◌, List, [], ◌∷◌, Option, Some, None, Result, length, arith}
 use Rattle.std.specs.Prelude.{slice_get, slice_set, is_some}
 use Rattle.thread_state.specs.declared.State.TheVariants.{Vacant}
@@ -31,7 +31,7 @@ use Rattle.system.proofs.ByAct.{became, refused_in}
 use Rattle.system.proofs.FinishAndClear.{finished, cleared}
 use Rattle.system.proofs.AddedMarks.{unless_yes}
 
--- what stands at a place of the world, by what the system keeps there
+-- the state of a place in the system and in the world
 pub data AtPlace (s : Core) (w : World) (p : ℕ) (o : Option (Option Kept)) : Type 0 where
   nowhere : o ≡ None → slice_get w.places p ≡ None → AtPlace s w p o
   vacant : o ≡ Some None → slice_get w.places p ≡ Some None → AtPlace s w p o
@@ -56,7 +56,7 @@ same_ends (k ∷ ks) (t ∷ ts) (suc p) e = same_ends ks ts p (omega arith)
 pub at_place : (s : Core) (w : World) (p : ℕ) → Matches s w → AtPlace s w p (slice_get s.places.items p)
 at_place s w p m = by_both s w p (slice_get s.places.items p) (slice_get w.places p) refl (same_ends s.places.items w.places p m.places.lengths) (m.places.each p)
 
--- an accepted act passed the tests that all have in common
+-- an accepted act passed the common tests
 pub here_yes : (w : World) (act : Act) (t : Thread) (e : Effect) (a : Answer) → here w act t ≡ accepted e a → does w act t ≡ accepted e a
 here_yes w act t e a h =
     let one = unless_yes (not (is_publishing t) || may_while_publishing act) Publishing _ e a h in
@@ -70,7 +70,7 @@ accepted_in new w e v a said is says m = record {
   matches = subst (λ x. Matches new (world_of w e x)) (sym is) m;
 }
 
--- the marks that an act may add are those of Finish and Clear
+-- only Finish and Clear add marks
 marked : (s new : Core) (w : World) (p : ℕ) (act : Act) (kept after_ : Kept) (t : Thread) (r : Requests) (a : Answer) → Matches s w → IsSound w → SameRest s new → new.places.items ≡ slice_set s.places.items p (Some after_) → slice_get w.places p ≡ Some (Some t) → SameAt w p kept t
     → does w act t ≡ accepted (marks r) a → CameAbout (reach_of act (serves act s.requests.opens kept) w.requests) (marks r) after_ t → Becomes (marked_by act (serves act s.requests.opens kept) kept.marks) (timed_by act s.moment kept.moments) kept after_
     → Matches new (asked w r (event.At p act) a)
@@ -99,11 +99,11 @@ nobody_leaves thread_alone kept t h = h
 nobody_leaves (finishes n q) kept t h = h
 nobody_leaves (clears n q) kept t h = h
 
--- What the system lends a thread for an act.
+-- The state that the system lends a thread for an act.
 abbrev lent_by : Core → Act → Lent
 lent_by s act = record { act = act; opens = s.requests.opens; now = s.moment }
 
--- by what the verdict is
+-- by the verdict
 by_verdict : (s new : Core) (w : World) (p : ℕ) (act : Act) (kept after_ : Kept) (t : Thread) (result : Result Answer Refusal) (said : Answer) (v : Verdict Effect) → Matches s w → IsSound w → SameRest s new → new.places.items ≡ slice_set s.places.items p (Some after_) → slice_get s.places.items p ≡ Some (Some kept) → slice_get w.places p ≡ Some (Some t) → SameAt w p kept t
     → here w act t ≡ v → outcome w (event.At p act) ≡ lands w p v → Did (lent_by s act) w.requests v kept after_ t result → said ≡ answer_here result → DoesIn (event.At p act) said new w
 by_verdict s new w p act kept after_ t result said (refused r) m sound rest places at_s there same is goes did says =

@@ -1,4 +1,4 @@
--- A poll of a thread in Java always leads on or to a stop.
+-- In Java a poll always leads on or to a stop.
 use Rattle.std.proofs.Common.{◌≡◌, ◌∙◌, sym, refl, true, false, Bool, Option, Result, ℕ, subst}
 use Rattle.std.specs.Prelude.{is_none}
 use Rattle.thread_state.specs.declared.State.{State}
@@ -26,7 +26,7 @@ java_is BlockedTrans h = cc
 java_is (AtPoll b) h = cc
 java_is (Serving b) h = cc
 
--- the thread before the poll has the name, the counts, the marks and the moments
+-- before the poll the thread has its old name, counts, marks and moments
 pub record Before (old mid : Kept) : Type 0 where
   pub name : mid.name ≡ old.name
   pub counted : SameBag mid.image.counted old.image.counted

@@ -1,4 +1,4 @@
--- The events of reclaiming: invalidate, look and weigh, and the records that they keep.
+-- Invalidate, Look and Weigh, and their records.
 use Rattle.std.proofs.Common.{◌≡◌, ◌≢◌, ◌∙◌, ◌<◌, ◌≤◌, sym, ap, refl, subst, ℕ, zero, suc, Bool, true, false, not, ◌&&◌, ◌||◌, cond, List, [], ◌∷◌, Option, Some, None, Result, Ok, Err, length, get_or, ⊎_elim, arith}
 use Rattle.std.specs.Prelude.{slice_get, slice_set, slice_index_or, find, nat_lt, ◌==◌}
 use Rattle.std.proofs.lemmas.Bool.{false≢true, eqb-true, eq-eqb, ne_eqb, lt-ltb, le-ltb, and_parts, false_from_ne_true, cases_lt}
@@ -40,7 +40,7 @@ use Rattle.system.proofs.Logs.{noted_matches}
 use Rattle.system.proofs.CodeEvents.{Recodes, accepted_in, refused_does, coded_matches, record_next, restated_at, restated_records, restated_cells}
 use Rattle.system.proofs.Cells.{cells_stay, count_here}
 
--- What is read at an index stands there.
+-- The item read at an index is there.
 pub at_index : {A : Type 0} (xs : List A) (i : ℕ) (x : A) → i < length xs → x ≡ get_or xs i x → slice_get xs i ≡ Some x
 at_index xs i x low e = slice_get-get_or xs i x low ∙ ap Some (sym e)
 
@@ -76,7 +76,7 @@ left_code s w serial code m h =
 code_here : (w : World) (serial : ℕ) (code : Code) (state : CodeState) → IsSound w → IsCode w serial code state → code_of w.codes code.serial ≡ Some code
 code_here w serial code state sound i = subst (λ n. code_of w.codes n ≡ Some code) (sym i.serial_is) (unfreed_code w.slots w.methods w.codes sound.table serial code i.found)
 
--- Two codes in one slot are one.
+-- Two unfreed codes in one slot are the same.
 one_slot : (w : World) (a b : Code) → IsSound w → code_of w.codes a.serial ≡ Some a → code_of w.codes b.serial ≡ Some b → takes_slot a.state ≡ true → takes_slot b.state ≡ true → a.slot ≡ b.slot → a.serial ≡ b.serial
 one_slot w a b sound found_a found_b takes_a takes_b slots =
     let x = find_place (λ (c : Code). c.serial == a.serial) w.codes a found_a in
@@ -84,7 +84,7 @@ one_slot w a b sound found_a found_b takes_a takes_b slots =
     let e = sound.table.one_in_slot x.0 y.0 a b x.1 y.1 takes_a takes_b slots in
     let p = sound.table.serial_is x.0 a x.1 in let q = sound.table.serial_is y.0 b y.1 in omega arith
 
--- Where the code is not entrant no more, or not yet, or unknown.
+-- The code is unknown, or has another state than not entrant.
 pub no_look : (s : Core) (serial place : ℕ) (r : Refusal) → not_entrant (unfreed s.table.codes serial) ≡ Err r → Does (event.Look serial place) s (answer.Refused r) s
 no_look s serial place r h = refused_does s (event.Look serial place) r (λ w m. by w (unfreed w.codes serial) (ap (λ cs. not_entrant (unfreed cs serial)) (sym m.codes) ∙ h))
   where
@@ -107,7 +107,7 @@ no_weigh s serial r h = refused_does s (event.Weigh serial) r (λ w m. by w (unf
     by w None h = cc
     by w (Some k) h = two w k (is_not_entrant k.state) refl h
 
--- Looks: a place that there isn't.
+-- A look at a missing place.
 pub no_place : (s : Core) (serial place : ℕ) (code : Code) → not_entrant (unfreed s.table.codes serial) ≡ Ok code → length s.places.items ≤ place → Does (event.Look serial place) s (answer.Refused refusal.NoSuchPlace) s
 no_place s serial place code h high = refused_does s (event.Look serial place) refusal.NoSuchPlace (λ w m.
     let i = left_code s w serial code m h in
@@ -121,7 +121,7 @@ no_place s serial place code h high = refused_does s (event.Look serial place) r
 look_found : (w : World) (place : ℕ) (code : Code) (clear : Bool) → is_not_entrant code.state ≡ true → nat_lt place (length w.places) ≡ true → covered w place code.serial ≡ clear → look w place code ≡ accepted w (clear_or_late clear)
 look_found w place code clear left low is = rw (left, low) (ap (λ b. accepted w (clear_or_late b)) is)
 
--- What the system tests is the comparison of moments.
+-- The system's test is the comparison of moments.
 clear_by : (w : World) (place left : ℕ) (k : Option Kept) (o : Option Thread) → SamePlace w place k o → ((t : Thread) → o ≡ Some t → t.published ≡ true → 0 < ended place w.log)
     → is_clear left k ≡ ((published_at w.log place o == 0) || nat_lt left (published_at w.log place o))
 clear_by w place left None None same from = refl
@@ -180,7 +180,7 @@ looked_now w serial place code r serial_is was = record {
     same : (serial == code.serial) ≡ true
     same = eq-eqb serial code.serial (sym serial_is)
 
--- A look changes the record of its code alone.
+-- A look changes only the record of its code.
 looked_records : (records : List Record) (w : World) (serial place : ℕ) (code : Code) (r : Record) → IsSound w → IsCode w serial code NotEntrant → SameRecords records w → slice_get records code.slot ≡ Some r
     → SameRecords (slice_set records code.slot (with_look r place)) (coded w w.codes (event.Look serial place) answer.Clear)
 looked_records records w serial place code r sound i h at_slot = record {
@@ -214,7 +214,7 @@ clear s t serial place code r k h at_slot at_place is same records index = recor
   sizes = record { places = ap (λ v. length v.items) same.places; slots = ap (λ (x : TableView). x.slots) same.table; methods = ap (λ (x : TableView). x.methods) same.table };
 }
 
--- A code stays in its slot where its state takes one.
+-- A code that still takes a slot keeps its slot's cell.
 taken_cells : (cells : List Cell) (w : World) (serial : ℕ) (state : CodeState) (code : Code) (e : Event) (a : Answer) → IsSound w → unfreed w.codes serial ≡ Some code → takes_slot state ≡ true → SameCells cells w
     → SameCells cells (coded w (with_state w.codes serial state) e a)
 taken_cells cells w serial state code e a sound found takes same = restated_cells cells w serial state e a
@@ -222,7 +222,6 @@ taken_cells cells w serial state code e a sound found takes same = restated_cell
     let are : code ≡ k = cc in subst (λ (c : Code). takes_slot c.state ≡ true) are (unfreed_takes w.codes serial code found)))
     (λ k is frees. absurd (false≢true (sym frees ∙ takes))) same
 
--- Invalidating.
 invalidate_accepted : (w : World) (serial : ℕ) (code : Code) → IsCode w serial code InUse → outcome w (event.Invalidate serial) ≡ accepted (record w { codes = with_state w.codes serial NotEntrant }) answer.Done
 invalidate_accepted w serial code i = ap (λ o. of_code o (invalidate w)) i.found ∙ by (ap is_in_use i.state_is) i.serial_is
   where
@@ -285,7 +284,7 @@ left s t serial code found used few low same records index = record {
   sizes = record { places = ap (λ v. length v.items) same.places; slots = ap (λ (x : TableView). x.slots) same.table; methods = ap (λ (x : TableView). x.methods) same.table };
 }
 
--- Weighing: the least number that passes.
+-- Weigh searches for the least number that passes.
 none_below : (test : ℕ → Bool) (n : ℕ) → ((q : ℕ) → q < n → test q ≡ false) → find test (below n) ≡ None
 none_below test zero h = refl
 none_below test (suc n) h = find_push_none test (below n) n (none_below test n (λ q lt. h q (omega arith))) ∙ ap (λ b. cond b (Some n) None) (h n (omega arith))
@@ -302,7 +301,7 @@ weigh_found : (w : World) (serial : ℕ) (code : Code) (o : Option ℕ) → IsCo
 weigh_found w serial code o i is =
     ap (λ o. of_code o (weigh w)) i.found ∙ (ap (λ b. unless b refuse refusal.NotNotEntrant then weigh_all w code (unlooked w code.serial)) (ap is_not_entrant i.state_is) ∙ ap (weigh_all w code) is)
 
--- The record has the places that were looked at.
+-- The record has the places with a Clear look.
 pub record Unlooked (r : Record) (places place : ℕ) : Type 0 where
   pub low : place < places
   pub is_unlooked : slice_index_or r.looked place true ≡ false
@@ -324,7 +323,7 @@ not_looked s serial place code r h at_slot u = record {
   sizes = record { places = refl; slots = refl; methods = refl };
 }
 
--- All places were looked at.
+-- All places have a Clear look.
 all_looked : (s : Core) (w : World) (serial : ℕ) (code : Code) (r : Record) → IsSound w → Matches s w → IsCode w serial code NotEntrant → slice_get s.records.items code.slot ≡ Some r
     → ((place : ℕ) → place < length s.places.items → slice_index_or r.looked place true ≡ true) → unlooked w code.serial ≡ None
 all_looked s w serial code r sound m i at_slot all =

@@ -1,4 +1,4 @@
--- What keeps frames of a code on a stack from outliving it: an invariant of places, codes and log.
+-- The invariant of places, codes and log by which no frame of a code outlives the code.
 use Rattle.std.proofs.Common.{◌≡◌, ◌≢◌, ◌⊎◌, ℕ, ◌<◌, ◌≤◌, Bool, true, false, cond, List, ◌∷◌, length, Option, Some, None, sym, refl, ap, ◌∙◌, inl, inr, ⊎_elim, subst}
 use Rattle.std.specs.Prelude.{not, ◌||◌, ◌&&◌, ◌==◌, slice_get, slice_set, option_map}
 use mathlib.Core.Logic.{dite}
@@ -20,41 +20,41 @@ use Rattle.system.proofs.Moments.{begun_at, ended_at, since_step, from_begin}
 
 -- A thread at a place.
 pub record IsThread (codes : List Code) (log : List Entry) (p : ℕ) (t : Thread) : Type 0 where
-  -- Codes on its stack, and codes that it counts, may stand.
+  -- Codes on the thread's stack and in its counts may have frames.
   pub live : (c : CodeId) → 0 < act c t.stack → IsLive codes c
   pub counted : (c : CodeId) → 0 < part c t → IsLive codes c
-  -- A code has no more frames than were shown, or was entered since.
+  -- A code has at most as many frames as in the shown stack, or was entered since.
   pub held : (c : CodeId) → (act c t.stack ≤ act c t.shown) ⊎ (is_fresh p c.serial log ≡ true)
-  -- For a code entered since the last publication, the place isn't covered, and wasn't looked at.
+  -- A place isn't covered for a code entered since the last publication, and has no Clear look for it.
   pub uncovered : (s : ℕ) → is_fresh p s log ≡ true → is_published_since log s p t.name ≡ false
   pub unlooked : (s : ℕ) → is_fresh p s log ≡ true → is_looked log s p ≡ false
   pub published : (s : ℕ) → is_fresh p s log ≡ true → t.published ≡ true
-  -- An open publication, and one that ended, have moments. The thread's Start is in the log.
+  -- The open publication and the last ended one have moments. The log has the thread's Start.
   pub opened : is_publishing t ≡ true → 0 < begun_at p t.name log
   pub closed : t.published ≡ true → 0 < ended_at p t.name log
   pub started : has_started log t.name ≡ true
-  -- These moments are those since the last Start at the place.
+  -- These moments count from the last Start at the place.
   pub begun_is : begun_at p t.name log ≡ begun p log
   pub ended_is : ended_at p t.name log ≡ ended p log
 
--- The code in use, or none.
+-- The code is given out and not in use.
 abbrev pub is_unused : Option Code → Bool
 is_unused None = false
 is_unused (Some code) = not (is_in_use code.state)
 
 -- The codes.
 pub record IsTable (codes : List Code) (log : List Entry) : Type 0 where
-  -- Invalidated are the codes that aren't in use any more; only such are looked for.
+  -- The codes out of use are those that were invalidated. Only such codes have looks.
   pub invalidated_is : (s : ℕ) → invalidated s log ≡ is_unused (code_of codes s)
   pub looked_by : (s p : ℕ) → is_looked log s p ≡ true → invalidated s log ≡ true
 
 pub record IsReclaimed (places : List (Option Thread)) (codes : List Code) (log : List Entry) : Type 0 where
   pub seats : Each (IsThread codes log) places
-  -- Nothing is fresh where nobody is.
+  -- No code is fresh at a vacant place.
   pub vacant : (p s : ℕ) → slice_get places p ≡ Some None → is_fresh p s log ≡ false
   pub table : IsTable codes log
 
--- An entry that a place doesn't notice.
+-- An entry that changes nothing at the place.
 pub record Silent (p : ℕ) (e : Entry) : Type 0 where
   pub starts_not : starts p e.event e.answer ≡ false
   pub exits_not : is_exit p e.event ≡ false
@@ -91,7 +91,7 @@ or_later false y h = h
 pub still_started : (e : Entry) (log : List Entry) (name : ℕ) → has_started log name ≡ true → has_started (e ∷ log) name ≡ true
 still_started e log name h = or_later _ (has_started log name) h
 
--- What a thread has on its stack may change at an entry that its place doesn't notice.
+-- A thread's stack may change at an entry that changes nothing at its place.
 pub silent_thread : (codes codes' : List Code) (log : List Entry) (p : ℕ) (t u : Thread) (e : Entry) → Silent p e → IsThread codes log p t
     → ((c : CodeId) → 0 < act c u.stack → IsLive codes' c) → ((c : CodeId) → 0 < part c u → IsLive codes' c) → ((c : CodeId) → (act c u.stack ≤ act c u.shown) ⊎ (is_fresh p c.serial log ≡ true))
     → u.published ≡ t.published → is_publishing u ≡ is_publishing t → u.name ≡ t.name → IsThread codes' (e ∷ log) p u
@@ -133,7 +133,7 @@ lands places codes log p o e i low silent not_inv not_clear left mine = record {
   table = same_table codes log e i.table not_inv not_clear;
 }
 
--- An event that no place notices.
+-- An entry that changes nothing at any place.
 abbrev pub IsQuiet : Entry → Type 0
 IsQuiet e = (q : ℕ) → Silent q e
 
@@ -144,7 +144,7 @@ logged places codes log e i q n = record {
   table = same_table codes log e i.table n (λ s p. (let h = q p in h.clears_not s));
 }
 
--- An event that no place notices and that changes a code.
+-- Such an entry, which changes a code.
 pub recoded : (places : List (Option Thread)) (codes codes' : List Code) (log : List Entry) (e : Entry) → IsReclaimed places codes log → IsQuiet e
     → ((p : ℕ) (t : Thread) → slice_get places p ≡ Some (Some t) → (c : CodeId) → IsLive codes c → (0 < act c t.stack) ⊎ (0 < part c t) → IsLive codes' c)
     → ((s : ℕ) → invalidated s (e ∷ log) ≡ is_unused (code_of codes' s)) → IsReclaimed places codes' (e ∷ log)
@@ -175,11 +175,11 @@ installed places codes log e method slot i q n = recoded places codes (with_code
         two true = refl
         two false = refl
 
--- The code k of the serial s comes into another state, and no place notices.
+-- The code k of the serial s changes its state, and no place changes.
 pub record Restates (places : List (Option Thread)) (codes : List Code) (log : List Entry) (s : ℕ) (state : CodeState) (k : Code) (e : Entry) : Type 0 where
   pub there : code_of codes s ≡ Some k
   pub quiet : IsQuiet e
-  -- A code that stands somewhere, or is counted, may stand in the other state too.
+  -- A code with frames or counts may have frames in the new state too.
   pub stays : (p : ℕ) (t : Thread) → slice_get places p ≡ Some (Some t) → (c : CodeId) → id_of k ≡ c → (0 < act c t.stack) ⊎ (0 < part c t) → may_stand k.state ≡ true → may_stand state ≡ true
   pub left : invalidated s (e ∷ log) ≡ not (is_in_use state)
   pub others : (r : ℕ) → s ≢ r → is_invalidate r e.event ≡ false

@@ -1,4 +1,4 @@
--- Each event keeps what reclaiming stands on.
+-- Each event preserves the invariant of reclaiming.
 use Rattle.std.proofs.Common.{◌≡◌, ◌⊎◌, ℕ, zero, suc, ◌+◌, ◌-◌, ◌<◌, ◌≤◌, Bool, true, false, cond, List, [], ◌∷◌, ◌++◌, length, Option, Some, None, sym, refl, ap, ◌∙◌, inl, inr, ⊎_elim, subst, arith}
 use Rattle.std.specs.Prelude.{not, ◌||◌, ◌&&◌, ◌==◌, slice_get, slice_set, sum_by, replicate}
 use Rattle.std.proofs.lemmas.Bool.{false≢true, not-false, eqb-true, eq-eqb, ne_eqb, and_parts, or_cases, and_right, false_from_ne_true}
@@ -39,12 +39,13 @@ use Rattle.system.proofs.ReclaimInvariant.{IsThread, is_unused, IsReclaimed, Sil
 same_number : (n : ℕ) → (n == n) ≡ true
 same_number n = eq-eqb n n refl
 
--- An entry that no place notices and that invalidates nothing.
+-- An entry that changes nothing at any place, and invalidates nothing.
 record Unnoticed (e : Entry) : Type 0 where
   pub quiet : IsQuiet e
   pub invalidates_not : (s : ℕ) → is_invalidate s e.event ≡ false
 
--- A thread after an act has no more frames than before, counts what may stand, and has shown and published the same.
+-- After the act the thread has no more frames than before, counts only codes that may have frames, and has the same
+-- shown stack and publication.
 record NoMore (codes : List Code) (t u : Thread) : Type 0 where
   pub fewer : (c : CodeId) → stack.act c u.stack ≤ stack.act c t.stack
   pub counted : (c : CodeId) → 0 < part c u → IsLive codes c
@@ -53,7 +54,7 @@ record NoMore (codes : List Code) (t u : Thread) : Type 0 where
   pub publishing : is_publishing u ≡ is_publishing t
   pub name : u.name ≡ t.name
 
--- An act that no place notices, after which the thread has no more.
+-- An act that changes nothing at any place, and adds no frame.
 quiet_act : (w : World) (p : ℕ) (t u : Thread) (e : Entry) → IsReclaimed w.places w.codes w.log → Stands w p t → Unnoticed e → NoMore w.codes t u
     → IsReclaimed (slice_set w.places p (Some u)) w.codes (e ∷ w.log)
 quiet_act w p t u e h s n less = lands w.places w.codes w.log p (Some u) e h s.low (λ q ne. n.quiet q) n.invalidates_not (λ r q. (let z = n.quiet q in z.clears_not r))
@@ -62,7 +63,7 @@ quiet_act w p t u e h s n less = lands w.places w.codes w.log p (Some u) e h s.l
     (λ c a. i.live c (let l = less.fewer c in omega arith)) less.counted
     (λ c. ⊎_elim (λ a. inl (let l = less.fewer c in let z : stack.act c u.shown ≡ stack.act c t.shown = ap (stack.act c) less.shown in omega arith)) (λ b. inr b) (i.held c)) less.published less.publishing less.name)))
 
--- The thread itself, or with other state or hold.
+-- The same thread, perhaps in another state, held or released.
 same_act : (w : World) (p : ℕ) (t : Thread) (state : State) (hold : Bool) (e : Entry) → IsReclaimed w.places w.codes w.log → Stands w p t → Unnoticed e
     → IsReclaimed (slice_set w.places p (Some (record t { state = state; held = hold }))) w.codes (e ∷ w.log)
 same_act w p t state hold e h s n = quiet_act w p t (record t { state = state; held = hold }) e h s n (record {
@@ -74,7 +75,7 @@ same_act w p t state hold e h s n = quiet_act w p t (record t { state = state; h
   name = refl;
 })
 
--- A move is no act that a place notices.
+-- A move changes nothing at any place.
 move_quiet : (p q : ℕ) (a : Act) (given : Answer) → is_move a ≡ true → Silent q (record { event = event.At p a; answer = given })
 move_quiet p q act.Wake given h = record { starts_not = refl; exits_not = refl; begins_not = refl; ends_not = refl; enters_not = λ s. refl; clears_not = λ s. refl }
 move_quiet p q act.Cross given h = record { starts_not = refl; exits_not = refl; begins_not = refl; ends_not = refl; enters_not = λ s. refl; clears_not = λ s. refl }
@@ -244,7 +245,7 @@ start_kept w p known h low = lands w.places w.codes w.log p (Some (new_thread (n
 pub left_in : (places : List (Option Thread)) (codes : List Code) (log : List Entry) (s : ℕ) (k : Code) → IsReclaimed places codes log → code_of codes s ≡ Some k → is_in_use k.state ≡ false → invalidated s log ≡ true
 left_in places codes log s k h is used = h.table.invalidated_is s ∙ (ap is_unused is ∙ ap not used)
 
--- Look: where it is clear, the thread there has the code not fresh.
+-- Look: a code with a Clear look isn't fresh for the thread at the place.
 look_kept : (w : World) (s p : ℕ) (code : Code) → TableIsSound w.slots w.methods w.codes → IsReclaimed w.places w.codes w.log → Looks w s p code true → IsReclaimed w.places w.codes (record { event = event.Look s p; answer = answer.Clear } ∷ w.log)
 look_kept w s p code table h i = record {
   vacant = h.vacant;
@@ -279,7 +280,7 @@ look_kept w s p code table h i = record {
         let there : (not t.published || is_published_since w.log r q t.name) ≡ true = sym (ap (λ o. is_covered_at w.log r q (found o)) x) ∙ cov in
         ⊎_elim (λ a. false≢true (sym (ap not pub_is) ∙ a)) (λ b. false≢true (sym since ∙ b)) (or_cases (not t.published) (is_published_since w.log r q t.name) there)
 
--- Weigh: where it retires, nobody has the code.
+-- Weigh: a code becomes a zombie only if no thread has frames of it.
 looked_all : (w : World) (s : ℕ) → unlooked w s ≡ None → (p : ℕ) → p < length w.places → is_looked w.log s p ≡ true
 looked_all w s h p low = not-false (is_looked w.log s p) (find_none_at (λ place. not (is_looked w.log s place)) (below (length w.places)) p p h (below_has (length w.places) p low))
 
@@ -288,7 +289,7 @@ walk_none c [] h p t x = cc
 walk_none c (o ∷ places) h zero t x = let step = sum_by-cons (part_at c) o places in let z : part_at c o ≡ 0 = omega arith in let same : o ≡ Some t = cc in ap (part_at c) (sym same) ∙ z
 walk_none c (o ∷ places) h (suc p) t x = let step = sum_by-cons (part_at c) o places in walk_none c places (omega arith) p t x
 
--- What is neither counted nor fresh stands on no stack.
+-- A code that is neither counted nor fresh has no frame on a stack.
 pub part_held : (codes : List Code) (log : List Entry) (p : ℕ) (t : Thread) (c : CodeId) → IsThread codes log p t → (stack.act c t.stack ≤ part c t) ⊎ (is_fresh p c.serial log ≡ true)
 part_held codes log p t c m = by (has_changed t c) (m.held c)
   where
@@ -306,11 +307,11 @@ nobody w s k h i p t x c is_k d =
     (part_held w.codes w.log p t c m))
     (λ b. absurd (omega arith)) d
 
--- An event that only the log remembers.
+-- An event that changes only the log.
 logs : (w : World) (e : Entry) → IsReclaimed w.places w.codes w.log → Unnoticed e → IsReclaimed w.places w.codes (e ∷ w.log)
 logs w e h n = logged w.places w.codes w.log e h n.quiet n.invalidates_not
 
--- Each event keeps it, in a world with a sound table.
+-- Each event preserves the invariant, in a world with a sound table.
 pub reclaim_kept : (w : World) → TableIsSound w.slots w.methods w.codes → NamesKnown w.log → IsReclaimed w.places w.codes w.log → Cases w (λ e a v. IsReclaimed v.places v.codes v.log)
 reclaim_kept w table known h = record {
   refuses = λ e r. h;

@@ -1,4 +1,4 @@
--- An Install, also over code in use: that is the Invalidate of the code in use, and then the Install.
+-- An Install, also over code in use, which is an Invalidate followed by an Install.
 use Rattle.std.proofs.Common.{◌≡◌, ◌∙◌, ◌<◌, ◌≤◌, sym, ap, refl, subst, ℕ, ◌+◌, Option, Some, None, length, arith}
 use Rattle.std.specs.Prelude.{slice_set, option_map, IfSome, IfNone}
 use Rattle.frames.specs.declared.CodeId.{CodeId}
@@ -26,7 +26,7 @@ use Rattle.system.proofs.ReclaimEvents.{left}
 is_install : (method n : ℕ) → IsOfCodes (event.Install method) (answer.Code n)
 is_install method n = record { starts_none = refl; asks_none = refl; rounds_none = refl; elsewhere = λ place. record { starts_not = refl; begins_not = refl; ends_not = refl } }
 
--- The code that is replaced has a record.
+-- The replaced code has a record.
 pub replaced_low : (s : Core) (w : World) → IsSound w → Matches s w → (method : ℕ) (replaced : Option CodeId) → replaced ≡ option_map id_of (in_use_for s.table.codes method) → IfSome replaced (λ id. id.slot < length s.records.items)
 replaced_low s w sound m method replaced is = by (in_use_for w.codes method) refl replaced (is ∙ ap (λ cs. option_map id_of (in_use_for cs method)) m.codes)
   where
@@ -38,7 +38,7 @@ replaced_low s w sound m method replaced is = by (in_use_for w.codes method) ref
         let slot_is : id.slot ≡ old.slot = ap (λ (i : CodeId). i.slot) (same_some same) in omega arith
 
 module _ (s t : Core) (method slot serial : ℕ) (allowed : install_fault s.table method ≡ None) (least : free_slot s.table.codes s.table.slots ≡ Some slot) (next : serial ≡ next_serial s.table.codes) (index : t.index ≡ slice_set s.index slot (cell_of serial 0)) where
-  -- where the method has no code in use
+  -- the method has no code in use
   plain : (w : World) → IsSound w → Matches s w → in_use_for w.codes method ≡ None → Recodes s t (with_code w.codes method slot) → t.records.items ≡ s.records.items → DoesIn (event.Install method) (answer.Code serial) t w
   plain w sound m none k records =
       let serial_is : serial ≡ next_serial w.codes = next ∙ ap next_serial m.codes in
@@ -47,7 +47,7 @@ module _ (s t : Core) (method slot serial : ℕ) (allowed : install_fault s.tabl
       (rw records (installed_records s.records.items w method slot (answer.Code (next_serial w.codes)) m.records))
       (rw (index, serial_is) (installed_cells s.index w method slot (answer.Code (next_serial w.codes)) sound.table sound.threads (world_slot s w slot m least) m.index)))))
 
-  -- where it has: what the system would be after the Invalidate alone
+  -- the method has code in use: the system after the Invalidate alone
   module _ (w : World) (sound : IsSound w) (m : Matches s w) (old : Code) (used : in_use_for w.codes method ≡ Some old) (few : length s.places.items ≤ 64)
       (k : Recodes s t (with_code (with_state w.codes old.serial NotEntrant) method slot)) (records : t.records.items ≡ slice_set s.records.items old.slot (new_record s.moment)) where
     abbrev mid : Core

@@ -1,4 +1,4 @@
--- Ask and Open: what they answer, and what the system has after them.
+-- Ask and Open: their answers, and the system after them.
 use Rattle.std.proofs.Common.{None, ◌≡◌, ◌∙◌, ◌+◌, ◌≤◌, sym, ap, refl, ℕ, Bool, true, false, ◌&&◌, ◌||◌, ◌==◌, eqb, cond, List, [], ◌∷◌, ◌++◌, Some, length, map, arith}
 use Rattle.std.specs.Prelude.{filter, nat_lt, nat_le}
 use Rattle.std.specs.List.{list_any}
@@ -43,7 +43,7 @@ use Rattle.system.proofs.Logs.{IsElsewhere, names_next, operations_next, moment_
 use Rattle.system.proofs.CodeEvents.{accepted_in, answered_as, none_some, refused_does, same_some}
 use Rattle.system.proofs.SoundMarks.{among_live}
 
--- A system that differs in its requests alone.
+-- A system with other requests.
 pub record Rerequests (s t : Core) : Type 0 where
   pub table : t.table ≡ s.table
   pub places : t.places ≡ s.places
@@ -52,7 +52,7 @@ pub record Rerequests (s t : Core) : Type 0 where
   pub names : t.names ≡ s.names
   pub moment_is : t.moment ≡ s.moment
 
--- An entry of an event of the operations.
+-- A log entry of an event of operations.
 pub record IsOfRequests (e : Event) (a : Answer) : Type 0 where
   pub starts_none : is_start e ≡ false
   pub rounds_none : is_round e ≡ false
@@ -60,7 +60,7 @@ pub record IsOfRequests (e : Event) (a : Answer) : Type 0 where
   pub looks_none : (serial place : ℕ) → is_look serial place e && says_clear a ≡ false
   pub elsewhere : (place : ℕ) → IsElsewhere place (record { event = e; answer = a })
 
--- What the event made of the requests.
+-- The system after a change of requests.
 pub record Asked (s t : Core) (w : World) (requests : Requests) (e : Event) (a : Answer) : Type 0 where
   pub rest : Rerequests s t
   pub entry : IsOfRequests e a
@@ -83,7 +83,7 @@ records_over records w requests e a q same = record {
 pub names_stay : (w : World) (e : Event) (a : Answer) → IsOfRequests e a → names_given (record { event = e; answer = a } ∷ w.log) ≡ names_given w.log
 names_stay w e a q = let n = names_next (record { event = e; answer = a }) w.log ∙ ap (λ b. cond {A = ℕ} b 1 0 + names_given w.log) q.starts_none in omega (arith, n)
 
--- An event may change the marks of the live threads alone.
+-- An event may change only the marks of live threads.
 pub record AskedLive (s t : Core) (w : World) (requests : Requests) (e : Event) (a : Answer) : Type 0 where
   pub rest : Rerequests s t
   pub entry : IsOfRequests e a
@@ -186,7 +186,7 @@ awaits_is : (queued : List (Queued (Unit {0}))) → awaits_safepoint (map waitin
 awaits_is [] = refl
 awaits_is (oldest ∷ others) = refl
 
--- The oldest request may be opened in both.
+-- The world may open the oldest request if and only if the system may.
 may_open_is : (s : Core) (w : World) → Matches s w → may_open w.requests ≡ may_open_now s.requests.opens s.requests.waiting
 may_open_is s w m =
     let few : length w.requests.opened ≡ length s.requests.opens = same_length w s.requests.opens w.requests.opened m.opened in
@@ -208,7 +208,7 @@ and_false : (a : Bool) → a && false ≡ false
 and_false true = refl
 and_false false = refl
 
--- A filtered list has the names that it had and that pass.
+-- A filtered list has the names of the list that pass.
 among_filter : (test : ℕ → Bool) (name : ℕ) (names : List ℕ) → among name (filter test names) ≡ test name && among name names
 among_filter test name [] = sym (and_false (test name))
 among_filter test name (x ∷ xs) = by (test x) (eqb x name) refl refl (among_filter test name xs)
@@ -223,7 +223,7 @@ pub among_names : (name : ℕ) (ts : List Thread) → among name (map (λ (t : T
 among_names name [] = refl
 among_names name (t ∷ ts) = ap (λ b. (t.name == name) || b) (among_names name ts)
 
--- A live name is among the names given out.
+-- A live name was given out.
 live_name_low : (w : World) (name : ℕ) → IsSound w → is_live w name ≡ true → name ≤ names_given w.log
 live_name_low w name sound lives =
     let a = among_live w name (among_names name (threads w.places) ∙ lives) in
@@ -279,7 +279,7 @@ opened_does s t oldest others may is rest numbers waiting opens_are = record {
   sizes = sizes_stay s t rest;
 }
 
--- A request that doesn't wait, and one that would.
+-- A request that the queue refuses, and one that it accepts.
 pub not_queued : (s : Core) (request : Request) (f : QueueFault) (r : Refusal) → nat_lt s.requests.numbers last_number ≡ true → IsCause (length s.requests.waiting) request f → refusal_of f ≡ Some r → Does (event.Ask request) s (answer.Refused r) s
 not_queued s request fault.QueueFull r room cause is = answered_as s s (event.Ask request) (answer.Refused refusal.QueueFull) (answer.Refused r) (ap answer.Refused (same_some is)) (queue_full s request room cause)
 not_queued s request fault.NoTargets r room cause is = answered_as s s (event.Ask request) (answer.Refused refusal.NoTargets) (answer.Refused r) (ap answer.Refused (same_some is)) (no_targets s request room cause)

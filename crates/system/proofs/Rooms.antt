@@ -1,4 +1,4 @@
--- Where a frame may be pushed.
+-- When a frame may be pushed.
 use Rattle.std.proofs.Common.{◌≡◌, refl, true, false, Bool, Option, Some, None, cond, not, ℕ, length, arith}
 use Rattle.std.specs.Prelude.{nat_lt, nat_le}
 use Rattle.std.proofs.lemmas.Bool.Decides.{nat_tests}

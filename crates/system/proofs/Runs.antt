@@ -68,7 +68,7 @@ sizes_of old new event (Err e) does same = rw same (same_sizes old)
 pub sizes_through : (a b c : Core) → SameSizes a b → SameSizes b c → SameSizes a c
 sizes_through a b c h k = record { places = k.places ∙ h.places; slots = k.slots ∙ h.slots; methods = k.methods ∙ h.methods }
 
--- a run that goes on by one event
+-- a run after one more event
 pub ran_on : (first s new : Core) (before all : List Event) (place : ℕ) (event : Event) (said more : List Answer) (a : Answer) → SameSizes first s → place < length all → get_or all place event ≡ event → said ≡ answers (world_by first before) (take place all) → StandsFor s (before ++ take place all) → Next s event a new → more ≡ said ++ a ∷ [] → (more ≡ answers (world_by first before) (take (place + 1) all)) × StandsFor new (before ++ take (place + 1) all)
 ran_on first s new before all place event said more a sizes lt read so_far stands does is =
     let done : List Event = take place all in
@@ -80,7 +80,7 @@ ran_on first s new before all place event said more a sizes lt read so_far stand
       subst (λ xs. StandsFor new xs) (append_assoc before done (event ∷ []) ∙ ap (λ xs. before ++ xs) (sym longer)) next.1,
     )
 
--- where memory is refused
+-- memory is refused
 pub on_err : {P : Type 0} (result : Result Answer AllocError) → P → OnErr result P
 on_err (Ok said) p = tt
 on_err (Err e) p = p
@@ -93,7 +93,7 @@ needs_of s event (Err e) ok may before stands = record { takes = takes (takes_no
     takes true is = let bad = ok is in cc
     takes false is = is
 
--- an event that couldn't be copied
+-- an event whose copy needs memory that is refused
 pub copy_needs : (s : Core) (given : Event) → (copies_freely given ≡ true → ⊥) → (copies_freely given ≡ true) ⊎ Accepts s given → (before : List Event) → StandsFor s before → NeedsMemory (world_by s before) given
 copy_needs s given costs may before stands = record {
   takes = takes given costs;
@@ -140,7 +140,7 @@ none_there n p = by (slice_get (replicate {A = Option Thread} n None) p) refl
     by None e = ap found e
     by (Some o) e = ap found e ∙ all_none n p o e
 
--- what a new system keeps
+-- the state of a new system
 pub record IsBlank (s : Core) (places slots methods : ℕ) : Type 0 where
   pub places_are : s.places.items ≡ replicate places None
   pub table_is : s.table ≡ record { codes = []; slots = slots; methods = methods }

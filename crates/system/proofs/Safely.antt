@@ -1,4 +1,4 @@
--- Operations run on published stacks, of threads at safe points.
+-- Operations run on the published stacks of threads at safe points.
 use Rattle.std.proofs.Common.{◌≡◌, ℕ, zero, suc, ◌+◌, ◌<◌, ◌≤◌, Bool, true, false, List, [], ◌∷◌, length, Option, Some, None, sym, refl, ap, subst, arith}
 use Rattle.std.specs.Prelude.{not, ◌&&◌, nat_lt, slice_get, sum_by}
 use Rattle.std.proofs.lemmas.Bool.{false≢true, or_cases, ltb-true, ltb-false}
@@ -37,7 +37,7 @@ use Rattle.system.proofs.Sound.{IsKept, kept_start, kept_after}
 pub settled : (t : Thread) → is_settled t ≡ true → IsSettled t
 settled t h = record { quiet = settled_quiet t h; counts = λ code. settled_is t code h }
 
--- What a Finish and an Operate must be.
+-- A Finish and an Operate are safe.
 abbrev IsSafeFinish : World → Event → Answer → World → Type 0
 IsSafeFinish w (event.At p act.Finish) said later = FinishesSafely w p said later
 IsSafeFinish w e said later = Unit {0}
@@ -55,12 +55,12 @@ census_lists : (r : Request) (name : ℕ) → is_census r ≡ true → lists r n
 census_lists Census name h k = false≢true k
 census_lists (Handshake targets ask) name h k = false≢true h
 
--- The open operation alone is open.
+-- Only one operation is open.
 alone : (os : List Opened) (o : Opened) (others : List Opened) → length os ≤ 1 → os ≡ o ∷ others → os ≡ o ∷ []
 alone os o [] few is = is
 alone os o (x ∷ xs) few is = let n : length os ≡ suc (suc (length xs)) = ap (λ (ys : List Opened). length ys) is in absurd (omega arith)
 
--- The least that is told and not done.
+-- The least operation that is told and not done.
 next_is : (w : World) (p : ℕ) (t : Thread) (opened : Opened) → IsKept w → Finishes w p t opened → IsNext w.requests t.name opened
 next_is w p t opened k i = record {
   position = found.place;
@@ -173,7 +173,7 @@ handshakes_run places slots methods events before rest p is accepted =
     let w = world_after (start_world places slots methods) before in
     by_cases w (λ e a v. is_accepted a ≡ true → IsSafeFinish w e a v) (finish_cases w (kept_after (start_world places slots methods) before (kept_start places slots methods))) (event.At p act.Finish) tt accepted
 
--- Where all are settled, the index counts the stacks.
+-- The index counts the stacks if all threads are settled.
 pub index_is : (c : CodeId) (places : List (Option Thread)) → ((p : ℕ) (t : Thread) → slice_get places p ≡ Some (Some t) → is_settled t ≡ true) → sum_by (part_at c) places ≡ sum_by (λ (t : Thread). stack.act c t.stack) (threads places)
 index_is c [] h = refl
 index_is c (None ∷ places) h = let a = sum_by-cons (part_at c) None places in let r = index_is c places (λ p t x. h (suc p) t x) in omega arith
@@ -181,7 +181,7 @@ index_is c (Some t ∷ places) h =
     let a = sum_by-cons (part_at c) (Some t) places in let b = sum_by-cons (λ (u : Thread). stack.act c u.stack) t (threads places) in
     let same = part_settled c t (h 0 t refl) in let r = index_is c places (λ p u x. h (suc p) u x) in omega arith
 
--- A code with a frame has one on a stack.
+-- A code with a frame has a frame on some stack.
 frame_at : (c : CodeId) (places : List (Option Thread)) → 0 < sum_by (λ (t : Thread). stack.act c t.stack) (threads places) → (p : ℕ) × (t : Thread) × (slice_get places p ≡ Some (Some t)) × (0 < stack.act c t.stack)
 frame_at c [] h = absurd (omega arith)
 frame_at c (None ∷ places) h = let r = frame_at c places h in (suc r.0, r.1, r.2, r.3)

@@ -1,4 +1,4 @@
--- What holds of the thread at each place.
+-- Facts of the thread at each place.
 use Rattle.std.proofs.Common.{◌≡◌, ◌≢◌, ℕ, zero, suc, ◌<◌, List, [], ◌∷◌, length, Option, Some, None, sym, refl, ap, ◌∙◌, subst, arith}
 use Rattle.std.specs.Prelude.{slice_get, slice_set, replicate}
 use mathlib.Core.Logic.{dite}
@@ -18,11 +18,11 @@ get_set_other (x ∷ xs) zero (suc j) y h = refl
 get_set_other (x ∷ xs) (suc i) zero y h = refl
 get_set_other (x ∷ xs) (suc i) (suc j) y h = get_set_other xs i j y (λ e. h (ap suc e))
 
--- Q holds of each place and of the thread there.
+-- Q holds for each place and its thread.
 abbrev pub Each : (ℕ → Thread → Type 0) → List (Option Thread) → Type 0
 Each Q places = (p : ℕ) (t : Thread) → slice_get places p ≡ Some (Some t) → Q p t
 
--- It holds after an event at a place, where it holds of what stands there then and of all other places.
+-- Q holds after an event at a place if it holds for the new thread there and for all other places.
 pub each_other : (Q : ℕ → Thread → Type 0) (places : List (Option Thread)) (p : ℕ) (o : Option Thread) → p < length places → ((q : ℕ) (t : Thread) → q ≢ p → slice_get places q ≡ Some (Some t) → Q q t)
     → ((t : Thread) → o ≡ Some t → Q p t) → Each Q (slice_set places p o)
 each_other Q places p o low h new q t e = dite (ℕ_discrete q p)

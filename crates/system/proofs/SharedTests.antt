@@ -1,4 +1,4 @@
--- The tests that all acts of a thread have in common.
+-- The common tests of all acts.
 use Rattle.std.proofs.Common.{◌≡◌, ◌∙◌, ap, refl, true, false, not, ◌&&◌, ◌||◌, Bool, cond, Option, Some, None}
 use Rattle.thread_state.specs.declared.State.{State}
 use Rattle.system.specs.declared.thread.Thread.{Thread as Kept}
@@ -29,7 +29,7 @@ fails true false l s v r h = ap refused (let e : Publishing ≡ r = cc in e)
 fails false m true s v r h = cc
 fails false m false s v r h = ap refused (let e : Illegal s ≡ r = cc in e)
 
--- the tests by what is kept
+-- the tests by the system's state
 tests_by : (w : World) (act : Act) (kept : Kept) (t : Thread) → SameThread kept t
     → here w act t ≡ (unless not kept.image.publishing || may_while_publishing act refuse Publishing then unless lawful_in act kept.held kept.state refuse Illegal kept.state then does w act t)
 tests_by w act kept t same = rw (lawful_by act t, same.held, same.state, same.image.publishing) refl
@@ -47,7 +47,7 @@ by_tests true false l s h = cc
 by_tests false m true s h = (refl, refl)
 by_tests false m false s h = cc
 
--- what a passed act may take for granted
+-- the facts after the common tests
 pub is_quiet : (kept : Kept) (act : Act) → common_refusal kept act ≡ None → (kept.image.publishing && not (may_while_publishing act) ≡ false) × (lawful_in act kept.held kept.state ≡ true)
 is_quiet kept act none = by_tests kept.image.publishing (may_while_publishing act) (lawful_in act kept.held kept.state) kept.state none
 

@@ -1,4 +1,4 @@
--- The slots of codes: each unfreed code has one of its own.
+-- Each unfreed code has its own slot.
 use Rattle.std.proofs.Common.{◌≡◌, ◌≢◌, ◌∙◌, ◌+◌, sym, ap, refl, ℕ, true, eqb, Some}
 use Rattle.method_table.specs.declared.Code.{Code}
 use Rattle.method_table.specs.declared.CodeState.{CodeState}

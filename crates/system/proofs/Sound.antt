@@ -1,4 +1,4 @@
--- What one event after the other keeps: the table, the threads, the numbers, the marks; and the sizes.
+-- Each event preserves the facts of table, threads, numbers and marks, and the sizes.
 use Rattle.std.proofs.Common.{◌≡◌, ℕ, suc, ◌+◌, ◌*◌, ◌≤◌, List, [], ◌∷◌, length, Option, Some, None, refl, ◌∙◌, arith, Bool, true, false, cond}
 use Rattle.std.specs.Prelude.{slice_get, sum_by}
 use Rattle.std.proofs.lemmas.List.Sums.{sum_by-cons}
@@ -27,7 +27,7 @@ use Rattle.system.proofs.SoundMarks.{marks_kept, marks_start}
 use Rattle.system.proofs.Operated.{operated_kept, operated_start}
 use Rattle.system.proofs.Seats.{each_start}
 
--- All that one event after the other keeps.
+-- All facts that each event preserves.
 pub record IsKept (w : World) : Type 0 where
   pub table : TableIsSound w.slots w.methods w.codes
   pub threads : ThreadsAreSound w.places w.codes (names_given w.log)

@@ -1,4 +1,4 @@
--- What was told, done and cleared is sound in every world that events lead to.
+-- The sets told, done and cleared are sound in every reachable world.
 use Rattle.std.proofs.Common.{◌≡◌, ◌⊎◌, ℕ, zero, suc, ◌+◌, ◌<◌, ◌≤◌, Bool, true, false, List, [], ◌∷◌, length, map, Option, Some, None, sym, refl, ap, ◌∙◌, inl, inr, ⊎_elim, subst, arith}
 use Rattle.std.specs.Prelude.{not, ◌||◌, ◌&&◌, ◌==◌, slice_get, slice_set, filter, replicate, option_map}
 use Rattle.std.specs.List.{list_all}
@@ -39,7 +39,7 @@ threads_has (None ∷ places) (suc p) t h = threads_has places p t h
 threads_has (Some u ∷ places) zero t h = let same : u ≡ t = cc in (0, ap (λ (x : Thread). Some x) same)
 threads_has (Some u ∷ places) (suc p) t h = let r = threads_has places p t h in (suc r.0, r.1)
 
--- A live name is that of a thread at a place.
+-- A live name is the name of a thread at a place.
 pub name_at : (places : List (Option Thread)) (i : ℕ) (name : ℕ) → slice_get (map (λ (t : Thread). t.name) (threads places)) i ≡ Some name → (p : ℕ) × (t : Thread) × (slice_get places p ≡ Some (Some t)) × (t.name ≡ name)
 name_at places i name h = let m = map_at (λ (t : Thread). t.name) (threads places) i name h in let r = threads_at places i m.before m.at in (r.0, m.before, r.1, m.is)
 
@@ -94,7 +94,7 @@ only_open os o others few is i x h =
 pub first_open : (os : List Opened) (o : Opened) (others : List Opened) → os ≡ o ∷ others → slice_get os 0 ≡ Some o
 first_open os o others is = subst (λ (ys : List Opened). slice_get ys 0 ≡ Some o) (sym is) refl
 
--- What stands at a place is the thread of before, or the new one.
+-- The thread at a place is the former one or the new one.
 seat_cases : (places : List (Option Thread)) (p : ℕ) (u : Thread) → p < length places → (q : ℕ) (v : Thread) → slice_get (slice_set places p (Some u)) q ≡ Some (Some v) → ((q ≡ p) × (u ≡ v)) ⊎ (slice_get places q ≡ Some (Some v))
 seat_cases places p u low q v x = dite (ℕ_discrete q p)
     (λ e. let is : Some (Some u) ≡ Some (Some v) = sym (get_set_same places p (Some u) low) ∙ subst (λ n. slice_get (slice_set places p (Some u)) n ≡ Some (Some v)) e x in let inner : u ≡ v = cc in inl (e, inner))
@@ -336,7 +336,7 @@ marks_closed w g n m opened i numbers h = record {
         subst (λ m. is_marked w.requests.cleared m t.name ≡ true) number
         (implied (is_live_target w opened t.name) (is_marked w.requests.cleared opened.number t.name) one (and_from (among t.name opened.live) (is_live w t.name) on_list (live_has w p t x)))
 
--- Each event keeps the marks sound, in a world whose threads and numbers are sound.
+-- Each event preserves this, in a world with sound threads and numbers.
 pub marks_kept : (w : World) → ThreadsAreSound w.places w.codes (names_given w.log) → NumbersAreSound w.requests.waiting w.requests.opened (names_given w.log) (operations_given w.log) (moment w.log)
     → MarksAreSound w.places w.requests (names_given w.log) (operations_given w.log) → Cases w (λ e a v. MarksAreSound v.places v.requests (names_given v.log) (operations_given v.log))
 marks_kept w threads numbers h = record {

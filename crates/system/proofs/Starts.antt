@@ -39,7 +39,7 @@ use Rattle.system.proofs.AfterAct.{places_set, length_set}
 use Rattle.system.proofs.Pairs.{any_same, opens_over}
 use Rattle.system.proofs.PlainActs.{nowhere, vacant, seat, at_place, accepted_in}
 
--- the least vacant place, in range and vacant
+-- the least vacant place is in range and vacant
 pub vacant_there : (ks : List (Option Kept)) (p : ℕ) → vacant_place ks ≡ Some p → slice_get ks p ≡ Some None
 vacant_there [] p e = cc
 vacant_there (None ∷ ks) p e = (let is : 0 ≡ p = cc in subst (λ n. slice_get (None ∷ ks) n ≡ Some None) is refl)
@@ -57,7 +57,7 @@ vacant_low ks p e = within ks p (vacant_there ks p e)
     within (x ∷ xs) zero h = omega arith
     within (x ∷ xs) (suc i) h = let l = within xs i h in omega arith
 
--- and it is the world's
+-- it is the world's least vacant place too
 same_vacant : (ks : List (Option Kept)) (ts : List (Option Thread)) → length ks ≡ length ts → ((p : ℕ) → is_some (held_at (slice_get ks p)) ≡ is_some (found (slice_get ts p))) → vacant_place ks ≡ vacant_place ts
 same_vacant [] [] len each = refl
 same_vacant [] (t ∷ ts) len each = absurd (omega arith)
@@ -97,7 +97,7 @@ started_entry name p = record { event = event.Start; answer = answer.Thread name
 absurd_at : (a b : Bool) → a ≡ true → a ≡ false → ⊥
 absurd_at a b h k = (let e : true ≡ false = sym h ∙ k in cc)
 
--- nothing was ever told to a new name
+-- no operation was ever told to a new name
 new_marks : (w : World) (name : ℕ) (kept : Kept) → IsSound w → name ≡ names_given w.log + 1 → IsNew kept name → SameMarks kept.marks w.requests name
 new_marks w name kept sound is new = rw new.marks_are (record {
   told_last = λ n told. absurd (never n told);
@@ -138,7 +138,7 @@ new_at v w p name kept sound is new requests log = record {
 elsewhere : (name p q : ℕ) → q ≢ p → IsElsewhere q (started_entry name p)
 elsewhere name p q h = record { starts_not = differs p q h; begins_not = refl; ends_not = refl }
 
--- counts over the places stay
+-- the sums over the places are unchanged
 walk_new : (places : List (Option Thread)) (p name : ℕ) (code : CodeId) → slice_get places p ≡ Some None → sum_by (part_at code) (slice_set places p (Some (new_thread name))) ≡ sum_by (part_at code) places
 walk_new [] p name code e = cc
 walk_new (o ∷ os) zero name code e =
@@ -150,7 +150,7 @@ walk_with : (w : World) (p name : ℕ) (e : Event) (a : Answer) (o : Option Code
 walk_with w p name e a None there = refl
 walk_with w p name e a (Some code) there = walk_new w.places p name (id_of code) there
 
--- who lives then is the new thread or lived before
+-- a thread that lives after a start is the new one or lived before
 live_with : (name new : ℕ) (places : List (Option Thread)) (p : ℕ) → slice_get places p ≡ Some None → (new ≡ name → ⊥) → list_any (λ (x : Thread). x.name == name) (threads (slice_set places p (Some (new_thread new)))) ≡ list_any (λ (x : Thread). x.name == name) (threads places)
 live_with name new [] p e differ = cc
 live_with name new (o ∷ os) zero e differ = (let is : o ≡ None = cc in rw (is, differs new name (λ k. differ (sym k))) refl)
@@ -163,7 +163,7 @@ live_over w v p name there places other differ = ap (λ ps. list_any (λ (x : Th
 names_tests : (n k : ℕ) → n < k → Rattle.std.specs.Prelude.nat_le k n ≡ false
 names_tests n k h = grind (arith, nat_tests)
 
--- the open operations, whose live targets the new thread isn't among
+-- the new thread is a live target of no open operation
 opened_over_start : (w v : World) (p name : ℕ) → IsSound w → name ≡ names_given w.log + 1 → names_given v.log ≡ name → slice_get w.places p ≡ Some None → v.places ≡ slice_set w.places p (Some (new_thread name))
     → (i : ℕ) (open_ : Open) (o : Opened) → slice_get w.requests.opened i ≡ Some o → SameOpened open_ o w → SameOpened open_ o v
 opened_over_start w v p name sound is given there places i open_ o at h = record {
@@ -205,7 +205,7 @@ started_matches s new w p name kept m sound k is there =
       index = rw k.index (cells_over s.index w v refl refl (λ o. walk_with w p name event.Start (answer.Thread name p) o there) m.index);
     }
 
--- the place of the system is vacant in the world
+-- the system's vacant place is vacant in the world
 world_vacant : (s : Core) (w : World) (p : ℕ) → Matches s w → vacant_place s.places.items ≡ Some p → slice_get w.places p ≡ Some None
 world_vacant s w p m e = elim (at_place s w p m) [
   | nowhere f x ↦ (let bad : None ≡ Some None = sym f ∙ vacant_there s.places.items p e in cc)

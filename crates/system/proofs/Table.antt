@@ -1,4 +1,4 @@
--- The table of codes is sound in every world that events lead to.
+-- The table of codes is sound in every reachable world.
 use Rattle.std.proofs.Common.{◌≡◌, ◌≢◌, ℕ, ◌<◌, Bool, true, false, cond, List, [], Option, Some, None, sym, refl, ap, ◌∙◌, ⊎_elim, subst, arith}
 use Rattle.std.specs.Prelude.{not, ◌&&◌, ◌==◌, slice_get, option_map}
 use Rattle.std.proofs.lemmas.Bool.{false≢true, not-true, and_parts, and_cases, eqb-true, eqb-false, eq-eqb, ne_eqb}
@@ -14,7 +14,7 @@ use Rattle.system.proofs.Lists.{map_at, push_at, push_length, map_length, same_a
 use Rattle.system.proofs.Outcomes.{IsCode, Installs}
 use Rattle.system.proofs.EventCases.{Cases}
 
--- A code in another state keeps all else.
+-- A change of state changes nothing else of a code.
 pub in_state_serial : (s : ℕ) (state : CodeState) (k : Code) → (in_state s state k).serial ≡ k.serial
 in_state_serial s state k = by (k.serial == s)
   where
@@ -49,19 +49,19 @@ in_state_here s state k h = let e = eq-eqb k.serial s h in rw e refl
 pub in_state_other : (s : ℕ) (state : CodeState) (k : Code) → k.serial ≢ s → in_state s state k ≡ k
 in_state_other s state k h = let e = ne_eqb k.serial s h in rw e refl
 
--- The code of a serial, by position.
+-- The code of a serial, by index.
 pub code_serial : (codes : List Code) (s : ℕ) (k : Code) → code_of codes s ≡ Some k → k.serial ≡ s
 code_serial codes s k h = eqb-true k.serial s (found_passes (λ (x : Code). x.serial == s) codes k h)
 
 pub code_with_state : (codes : List Code) (s : ℕ) (state : CodeState) (r : ℕ) → code_of (with_state codes s state) r ≡ option_map (in_state s state) (code_of codes r)
 code_with_state codes s state r = find_map (λ (x : Code). x.serial == r) (in_state s state) codes (λ x. ap (λ n. n == r) (in_state_serial s state x))
 
--- Two places with one serial are one.
+-- Two indices with one serial are the same.
 pub one_place : (slots methods : ℕ) (codes : List Code) → TableIsSound slots methods codes → (i j : ℕ) (a b : Code) → slice_get codes i ≡ Some a → slice_get codes j ≡ Some b → a.serial ≡ b.serial → a ≡ b
 one_place slots methods codes h i j a b x y e =
     let u = h.serial_is i a x in let v = h.serial_is j b y in let same : i ≡ j = omega arith in same_at codes j a b (subst (λ n. slice_get codes n ≡ Some a) same x) y
 
--- A serial that finds an unfreed code finds no other.
+-- The unfreed code of a serial is the code of this serial.
 pub unfreed_code : (slots methods : ℕ) (codes : List Code) → TableIsSound slots methods codes → (s : ℕ) (k : Code) → unfreed codes s ≡ Some k → code_of codes s ≡ Some k
 unfreed_code slots methods codes h s k e = by (code_of codes s) refl
   where
@@ -80,14 +80,14 @@ unfreed_code slots methods codes h s k e = by (code_of codes s) refl
 pub unfreed_takes : (codes : List Code) (s : ℕ) (k : Code) → unfreed codes s ≡ Some k → takes_slot k.state ≡ true
 unfreed_takes codes s k e = (and_parts (k.serial == s) (takes_slot k.state) (found_passes (λ (x : Code). (x.serial == s) && takes_slot x.state) codes k e)).1
 
--- What was given out stays given out.
+-- A code stays given out.
 pub given_state : (codes : List Code) (s : ℕ) (state : CodeState) (c : CodeId) → IsGiven codes c → IsGiven (with_state codes s state) c
 given_state codes s state c g = (in_state s state g.0, code_with_state codes s state c.serial ∙ ap (option_map (in_state s state)) g.1, in_state_id s state g.0 ∙ g.2)
 
 pub given_code : (codes : List Code) (method slot : ℕ) (c : CodeId) → IsGiven codes c → IsGiven (with_code codes method slot) c
 given_code codes method slot c g = (g.0, find_push (λ (x : Code). x.serial == c.serial) codes (record { serial = next_serial codes; slot = slot; method = method; state = InUse }) g.0 g.1, g.2)
 
--- A code of an unfreed serial comes into another state.
+-- The code of an unfreed serial changes its state.
 restated : (slots methods : ℕ) (codes : List Code) (s : ℕ) (state : CodeState) → TableIsSound slots methods codes → is_in_use state ≡ false
     → ((i : ℕ) (k : Code) → slice_get codes i ≡ Some k → k.serial ≡ s → takes_slot state ≡ true → takes_slot k.state ≡ true) → TableIsSound slots methods (with_state codes s state)
 restated slots methods codes s state h unused takes = record {
@@ -154,7 +154,7 @@ installed w method slot h i = record {
         let fails : (a.method == method) && is_in_use a.state ≡ false = find_none_at (λ (k : Code). (k.method == method) && is_in_use k.state) w.codes n a i.none_in_use x in
         ⊎_elim (λ d. eqb-false a.method method d e) (λ d. false≢true (sym d ∙ u)) (and_cases (a.method == method) (is_in_use a.state) fails)
 
--- Each event keeps the table sound.
+-- Each event preserves this.
 pub table_kept : (w : World) → TableIsSound w.slots w.methods w.codes → Cases w (λ e a v. TableIsSound v.slots v.methods v.codes)
 table_kept w h = record {
   refuses = λ e r. h;

@@ -1,4 +1,4 @@
--- Tell: what it answers, and what the system has after it.
+-- Tell: its answers, and the system after it.
 use Rattle.std.proofs.Common.{◌≡◌, ◌<◌, ◌≤◌, ◌∙◌, sym, ap, refl, subst, ℕ, Bool, true, false, not, ◌&&◌, ◌||◌, eqb, cond, List, [], ◌∷◌, Option, Some, None, length, arith}
 use Rattle.std.specs.Prelude.{slice_get, slice_set, nat_le, nat_lt, find, filter}
 use Rattle.std.specs.List.{list_any}
@@ -51,7 +51,7 @@ and_false : (a : Bool) → a && false ≡ false
 and_false true = refl
 and_false false = refl
 
--- Whom an operation may be told.
+-- The threads to which an operation may be told.
 may_is : (w : World) (request : Request) (name : ℕ) → may_tell w request name ≡ may_tell_of (names_given w.log) request name
 may_is w (Handshake targets ask) name = refl
 may_is w Census name = refl
@@ -69,7 +69,7 @@ tell_nothing s name none = refused_does s (event.Tell name) refusal.NothingOpen 
 pub tell_not_of : (s : Core) (name : ℕ) → is_empty s.requests.opens ≡ false → may_tell_any s.names s.requests.opens name ≡ false → Does (event.Tell name) s (answer.Refused refusal.NotOf) s
 tell_not_of s name some may = refused_does s (event.Tell name) refusal.NotOf (λ w sound m. rw (some_open s w false m some, may_any s w name m, may) refl)
 
--- Where it may be told, it goes by the operations that it is a live target of.
+-- If one may be told, the operations with the thread as a live target decide.
 abbrev live_targets : World → ℕ → List Opened
 live_targets w name = filter (λ o. is_live_target w o name) w.requests.opened
 
@@ -96,7 +96,7 @@ oldest_told : (w : World) (name : ℕ) (os : List Opened) → is_empty os ≡ fa
 oldest_told w name [] h = absurd (false≢true (sym h))
 oldest_told w name (o ∷ os) h = refl
 
--- Gone.
+-- The answer Gone.
 quiet : (name : ℕ) (a : Answer) → IsQuiet (record { event = event.Tell name; answer = a })
 quiet name a = record { starts_none = refl; asks_none = refl; rounds_none = refl; invalidates_none = λ r. refl; looks_none = λ r place. refl }
 
@@ -127,7 +127,7 @@ gone_nobody s name some may none = record {
         let same : b.0.name ≡ name = b.1.same.thread.name ∙ a.3 in
         let bad : ⊥ = grind (arith, nat_tests) in bad
 
--- What the system keeps of an operation tells whether it is new to the thread.
+-- The system's state of an operation decides whether the operation is untold.
 record IsPair (w : World) (kept : Kept) (name : ℕ) (a : Open) (o : Opened) : Type 0 where
   number : a.number ≡ o.number
   live : is_live_target w o name ≡ live_by kept a
@@ -167,7 +167,7 @@ pair_of s w p kept t sound b i a o at same = record {
     by true e = rw (live, told, e, or_true (eqb a.number kept.marks.told), and_true (nat_le a.number kept.marks.told), not_le a.number kept.marks.told) refl
     by false e = rw (live, e) (and_false (not (is_marked w.requests.told o.number t.name)) ∙ sym (and_false (nat_lt kept.marks.told a.number)))
 
--- The operation that is found is told.
+-- The operation found is told.
 told_in : (s new : Core) (w : World) (p : ℕ) (kept : Kept) (t : Thread) (a : Open) (o : Opened) → Matches s w → IsSound w → Both s w p kept t → SameRest s new → new.places.items ≡ slice_set s.places.items p (Some (marks_told kept (Some a))) → a.number ≡ o.number
     → find (λ x. not (is_marked w.requests.told x.number t.name)) (live_targets w t.name) ≡ Some o → outcome w (event.Tell t.name) ≡ tell_in w t.name o → DoesIn (event.Tell t.name) answer.Told new w
 told_in s new w p kept t a o m sound b rest places number least said =
@@ -191,7 +191,7 @@ told_in s new w p kept t a o m sound b rest places number least said =
       elsewhere = λ q differ. elsewhere t.name answer.Told q;
     }))
 
--- What has the thread as no live target isn't new to it.
+-- An operation without the thread as a live target isn't untold.
 none_untold : (kept : Kept) (opens : List Open) → list_any (live_by kept) opens ≡ false → find (untold_by kept) opens ≡ None
 none_untold kept [] none = refl
 none_untold kept (a ∷ opens) none =
@@ -200,7 +200,7 @@ none_untold kept (a ∷ opens) none =
     rw (dead, and_false (nat_lt kept.marks.told a.number)) rest
 
 module _ (s new : Core) (p : ℕ) (kept : Kept) (rest : SameRest s new) (at_s : slice_get s.places.items p ≡ Some (Some kept)) where
-  -- Where the thread stays as it is, so does the system.
+  -- If the thread is unchanged, so is the system.
   back : (after : Kept) → after ≡ kept → new.places.items ≡ slice_set s.places.items p (Some after) → new.places.items ≡ s.places.items
   back after is places = places ∙ (ap (λ k. slice_set s.places.items p (Some k)) is ∙ put_back s.places.items p (Some kept) at_s)
 
@@ -227,7 +227,7 @@ module _ (s new : Core) (p : ℕ) (kept : Kept) (rest : SameRest s new) (at_s : 
       let said = told_of s w t.name m some may ∙ (oldest_told w t.name (live_targets w t.name) (some_pass (λ o. is_live_target w o t.name) w.requests.opened living) ∙ ap (λ y. in_found refusal.AlreadyTold y (tell_in w t.name)) same) in
       by_found w t (find (untold_by kept) s.requests.opens) (find (λ o. not (is_marked w.requests.told o.number t.name) && is_live_target w o t.name) w.requests.opened) m sound b both same said places
 
-  -- A thread to which an operation is new may be told one.
+  -- An untold operation may be told to its thread.
   may_found : (w : World) (t : Thread) → Matches s w → IsSound w → Both s w p kept t → (a : Open) → find (untold_by kept) s.requests.opens ≡ Some a → may_tell_any s.names s.requests.opens t.name ≡ true
   may_found w t m sound b a found =
       let at = find_place (untold_by kept) s.requests.opens a found in

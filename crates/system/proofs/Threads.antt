@@ -1,4 +1,4 @@
--- The threads are sound in every world that events lead to.
+-- The threads are sound in every reachable world.
 use Rattle.std.proofs.Common.{◌≡◌, ◌≢◌, ◌⊎◌, ℕ, zero, suc, ◌+◌, ◌-◌, ◌<◌, ◌≤◌, Bool, true, false, cond, List, [], ◌∷◌, ◌++◌, length, Option, Some, None, sym, refl, ap, ◌∙◌, inl, inr, subst, arith}
 use Rattle.std.specs.Prelude.{not, ◌||◌, ◌==◌, slice_get, slice_set, replicate}
 use Rattle.std.proofs.lemmas.Bool.{false≢true, not-true, and_parts, eqb-false}
@@ -27,7 +27,7 @@ use Rattle.system.proofs.Frames.{same_is, count_cons, act_push, act_take, take_l
 use Rattle.system.proofs.Lists.{push_length}
 use Rattle.system.proofs.Table.{given_state, given_code}
 
--- A thread whose stack may lose frames.
+-- A thread after its top frame is popped.
 popped_sound : (codes : List Code) (g : ℕ) (t : Thread) → is_empty t.stack ≡ false → ThreadIsSound codes g t → ThreadIsSound codes g (popped t)
 popped_sound codes g t some h = record {
   name_from = h.name_from;
@@ -41,7 +41,7 @@ popped_sound codes g t some h = record {
   empty_shown = h.empty_shown;
 }
 
--- A thread with one frame more.
+-- A thread with one more frame.
 entered_sound : (codes : List Code) (g : ℕ) (t : Thread) (method : ℕ) (o : Option CodeId) → t.published ≡ true → length t.stack < 256 → ((c : CodeId) → is_code c o ≡ true → IsGiven codes c) → ThreadIsSound codes g t → ThreadIsSound codes g (entered t method o)
 entered_sound codes g t method o published room new h = record {
   name_from = h.name_from;
@@ -59,7 +59,7 @@ entered_sound codes g t method o published room new h = record {
     by c true e p a = new c e
     by c false e p a = h.stack_given c (subst (λ n. 0 < n) (p ∙ (rw e (omega arith))) a)
 
--- A thread whose next code changed.
+-- A thread after its next change.
 changed_sound : (codes : List Code) (g : ℕ) (t : Thread) (code : CodeId) → next_change t ≡ Some code → ThreadIsSound codes g t → ThreadIsSound codes g (changed_by t code)
 changed_sound codes g t code next h = record {
   name_from = h.name_from;
@@ -85,7 +85,7 @@ changed_sound codes g t code next h = record {
     by c true e k = subst (IsGiven codes) (same_is code c e) (some_count (act code t.stack) (act code t.shown) refl refl)
     by c false e k = h.changed_given c k
 
--- A thread that ends a publication.
+-- A thread after a publication ends.
 ended_sound : (codes : List Code) (g : ℕ) (t : Thread) → ThreadIsSound codes g t → ThreadIsSound codes g (ended t)
 ended_sound codes g t h = record {
   name_from = h.name_from;
@@ -112,7 +112,7 @@ begun_sound codes g t h = record {
   empty_shown = h.empty_shown;
 }
 
--- A thread of which only state and hold change.
+-- A thread with another state, held or released.
 same_sound : (codes : List Code) (g : ℕ) (t : Thread) (state : State) (held : Bool) → ThreadIsSound codes g t → ThreadIsSound codes g (record t { state = state; held = held })
 same_sound codes g t state held h = record {
   name_from = h.name_from;
@@ -126,7 +126,7 @@ same_sound codes g t state held h = record {
   empty_shown = h.empty_shown;
 }
 
--- Another table, and more names.
+-- Another table and more names.
 recoded : (codes codes' : List Code) (g g' : ℕ) (t : Thread) → ((c : CodeId) → IsGiven codes c → IsGiven codes' c) → g ≤ g' → ThreadIsSound codes g t → ThreadIsSound codes' g' t
 recoded codes codes' g g' t more low h = record {
   name_from = h.name_from;
@@ -146,7 +146,7 @@ recoded_all places codes codes' g more h = record {
   one_name = h.one_name;
 }
 
--- Who stood at a place before an act at p of the thread t.
+-- The thread at a place before an act of the thread t at p.
 before : (places : List (Option Thread)) (p : ℕ) (t u : Thread) → slice_get places p ≡ Some (Some t) → p < length places → u.name ≡ t.name → (q : ℕ) (v : Thread) → slice_get (slice_set places p (Some u)) q ≡ Some (Some v)
     → (old : Thread) × (slice_get places q ≡ Some (Some old)) × (old.name ≡ v.name)
 before places p t u there low same q v x = dite (ℕ_discrete q p)
@@ -162,7 +162,7 @@ seated_sound w codes g p t u h s same keeps = record {
       h.one_name q r m.0 n.0 m.1 n.1 (m.2 ∙ (e ∙ sym n.2)));
 }
 
--- The place p gets vacant.
+-- The place p becomes vacant.
 left_sound : (w : World) (codes : List Code) (g p : ℕ) (t : Thread) → ThreadsAreSound w.places codes g → Stands w p t → ThreadsAreSound (slice_set w.places p None) codes g
 left_sound w codes g p t h s = record {
   each = each_none (λ q v. ThreadIsSound codes g v) w.places p s.low h.each;
@@ -203,16 +203,16 @@ started_sound w codes g p h low = record {
     by q r a b x y e (inr i) (inl j) = let s = h.each r b j in let n = s.name_to in let m = i.1 in absurd (omega arith)
     by q r a b x y e (inr i) (inr j) = i.0 ∙ sym j.0
 
--- The code that is entered was given out.
+-- The entered code was given out.
 entered_given : (w : World) (p : ℕ) (t : Thread) (method serial : ℕ) (code : Code) → Enters w p t method serial code → (c : CodeId) → same_code (id_of code) c ≡ true → IsGiven w.codes c
 entered_given w p t method serial code i c e =
     let same = same_is (id_of code) c e in (code, subst (λ n. code_of w.codes n ≡ Some code) (sym i.serial_is ∙ ap (λ (y : CodeId). y.serial) same) i.code_is, same)
 
--- A Start gives one name more.
+-- A Start gives out one more name.
 pub started_more : (w : World) (p : ℕ) → names_given w.log + 1 ≡ names_given (record { event = event.Start; answer = answer.Thread (names_given w.log + 1) p } ∷ w.log)
 started_more w p = let a = count_cons (λ (x : Entry). is_start x.event) (record { event = event.Start; answer = answer.Thread (names_given w.log + 1) p }) w.log in omega arith
 
--- Each event keeps the threads sound.
+-- Each event preserves this.
 pub threads_kept : (w : World) → ThreadsAreSound w.places w.codes (names_given w.log) → Cases w (λ e a v. ThreadsAreSound v.places v.codes (names_given v.log))
 threads_kept w h = record {
   refuses = λ e r. h;

@@ -1,4 +1,5 @@
--- The three numbers of a thread, kept by Finish, Clear, Tell, Open, Operate and Close; and what they say of its polls and of the open operations.
+-- Finish, Clear, Tell, Open, Operate and Close preserve the meaning of a thread's three numbers, which give its poll
+-- and its marks for open operations.
 use Rattle.std.proofs.Common.{◌≡◌, ◌∙◌, ◌<◌, ◌≤◌, ◌+◌, sym, ap, subst, refl, ℕ, zero, suc, Bool, true, false, not, ◌&&◌, ◌||◌, eqb, ◌==◌, cond, List, [], ◌∷◌, Option, Some, None, length, map, arith, ⊎_elim}
 use Rattle.std.specs.Prelude.{filter, nat_le, nat_lt, slice_get, find}
 use Rattle.std.proofs.lemmas.Bool.{false≢true, leb-true, leb-false, ltb-true, ltb-false, and_parts, and_from, eqb-true}
@@ -101,7 +102,7 @@ poll_is m requests name same = by (eqb m.told m.cleared) refl
         let told : is_marked requests.told m.told name ≡ true = same.told_is (omega (arith, above)) in
         rw e (greatest_is requests.cleared name m.told requests.told same.told_last (same.cleared_is m.told told ∙ le_false m.told m.cleared above) told)
 
--- What the marks say of an open operation.
+-- The marks for an open operation.
 pub same_open : (open_ : Open) (o : Opened) (kept : Kept) (w : World) (i : ℕ) → MarksAreSound w.places w.requests (names_given w.log) (operations_given w.log) → slice_get w.requests.opened i ≡ Some o → 0 < o.number → SameOpened open_ o w → SameMarks kept.marks w.requests kept.name
     → is_live w kept.name ≡ true → SameOpen open_ kept w.requests o
 same_open open_ o kept w i s at from same m live = record {
@@ -145,7 +146,7 @@ both_parts true true h = absurd (false≢true h)
 both_parts true false h = (refl, refl)
 both_parts false b h = absurd (false≢true h)
 
--- A Finish, at its own thread.
+-- A Finish of the thread itself.
 pub done_own : (w : World) (name : ℕ) (opened : Opened) (m : Marks) → NumbersAreSound w.requests.waiting w.requests.opened (names_given w.log) (operations_given w.log) (moment w.log) → find (is_undone w.requests name) w.requests.opened ≡ Some opened → is_census opened.request ≡ false
     → SameMarks m w.requests name → SameMarks (record m { done = opened.number }) (record w.requests { done = with_mark w.requests.done opened.number name }) name
 done_own w name opened m numbers next handshake h = record {
@@ -202,7 +203,7 @@ done_own w name opened m numbers next handshake h = record {
         let a = ltb-false o.number opened.number e in let b = ltb-false opened.number o.number f in let same : opened.number ≡ o.number = omega (arith, a, b) in
         subst (λ n. is_marked (with_mark w.requests.done opened.number name) n name ≡ true) same (marked_new w.requests.done opened.number name) ∙ sym (rw (no_census j o at) (le_true o.number opened.number (omega (arith, same))))
 
--- A Clear, at its own thread.
+-- A Clear of the thread itself.
 pub cleared_own : (w : World) (p : ℕ) (t : Thread) (opened : Opened) (m : Marks) → NumbersAreSound w.requests.waiting w.requests.opened (names_given w.log) (operations_given w.log) (moment w.log) → MarksAreSound w.places w.requests (names_given w.log) (operations_given w.log) → slice_get w.places p ≡ Some (Some t) → find (is_uncleared w.requests t.name) w.requests.opened ≡ Some opened
     → SameMarks m w.requests t.name → SameMarks (record m { cleared = opened.number }) (record w.requests { cleared = with_mark w.requests.cleared opened.number t.name }) t.name
 cleared_own w p t opened m numbers marks there next h = record {
@@ -255,7 +256,7 @@ cleared_own w p t opened m numbers marks there next h = record {
         let a = ltb-false k opened.number e in let b = ltb-false opened.number k f in let same : opened.number ≡ k = omega (arith, a, b) in
         subst (λ n. is_marked (with_mark w.requests.cleared opened.number t.name) n t.name ≡ true) same (marked_new w.requests.cleared opened.number t.name) ∙ sym (le_true k opened.number (omega (arith, same)))
 
--- A Tell, at its own thread.
+-- A Tell to the thread itself.
 pub told_own : (w : World) (name p : ℕ) (t : Thread) (opened : Opened) (m : Marks) → IsSound w → slice_get w.places p ≡ Some (Some t) → t.name ≡ name → Tells w name opened
     → SameMarks m w.requests name → SameMarks (record m { told = opened.number }) (record w.requests { told = with_mark w.requests.told opened.number name }) name
 told_own w name p t opened m s there named i h = record {
@@ -368,7 +369,7 @@ only_one : (x : Opened) (j : ℕ) (y : Opened) → slice_get (x ∷ []) j ≡ So
 only_one x zero y h = cc
 only_one x (suc j) y h = cc
 
--- An Operate: all that is live is done with a census, which is open alone.
+-- An Operate: the census, which is open alone, becomes done for all live threads.
 pub operated_own : (w : World) (o : Opened) (name : ℕ) (m : Marks) → w.requests.opened ≡ o ∷ [] → is_census o.request ≡ true → among name (live_names w) ≡ true → SameMarks m w.requests name → SameMarks m (with_operated w o) name
 operated_own w o name m is asked lives h = record {
   told_last = h.told_last;
@@ -397,7 +398,7 @@ operated_own w o name m is asked lives h = record {
     marked = list_any-append (λ (mark : Mark). (mark.operation == o.number) && (mark.name == name)) (marks_of o.number (live_names w)) w.requests.done
         ∙ or_left (is_marked (marks_of o.number (live_names w)) o.number name) (is_marked w.requests.done o.number name) (marked_all o.number name (live_names w) lives)
 
--- Where other requests wait, and no operation is open that wasn't.
+-- Other requests wait, and no new operation is open.
 pub fewer_own : (old : Requests) (ws : List Waiting) (os : List Opened) (name : ℕ) (m : Marks) → ((i : ℕ) (o : Opened) → slice_get os i ≡ Some o → (j : ℕ) × (slice_get old.opened j ≡ Some o)) → SameMarks m old name → SameMarks m (record old { waiting = ws; opened = os }) name
 fewer_own old ws os name m was h = record {
   told_last = h.told_last;

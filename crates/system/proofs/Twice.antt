@@ -19,7 +19,7 @@ use Rattle.system.proofs.Lists.{map_at, map_length, find_place, found_passes, at
 use Rattle.system.proofs.CaseOfEvent.{Simple, each_kind}
 use Rattle.system.proofs.Table.{in_state_here, one_place}
 
--- The code that is found is the one of its serial.
+-- The code found is the code of its serial.
 found_only : (codes : List Code) (k : Code) (i : ℕ) → slice_get codes i ≡ Some k → takes_slot k.state ≡ true → ((j : ℕ) (a : Code) → slice_get codes j ≡ Some a → a.serial ≡ k.serial → a ≡ k) → unfreed codes k.serial ≡ Some k
 found_only codes k i at takes one = by (unfreed codes k.serial) refl
   where
@@ -30,7 +30,7 @@ found_only codes k i at takes one = by (unfreed codes k.serial) refl
         let p = and_parts (a.serial == k.serial) (takes_slot a.state) (found_passes (λ (x : Code). (x.serial == k.serial) && takes_slot x.state) codes a e) in
         ap (λ (x : Code). Some x) (one f.0 a f.1 (eqb-true a.serial k.serial p.0))
 
--- No code of the method is in use then.
+-- The method then has no code in use.
 pub none_then : (w : World) (method : ℕ) (old : Code) → TableIsSound w.slots w.methods w.codes → in_use_for w.codes method ≡ Some old → in_use_for (with_state w.codes old.serial NotEntrant) method ≡ None
 none_then w method old table is = by (in_use_for (with_state w.codes old.serial NotEntrant) method) refl
   where
@@ -58,7 +58,7 @@ none_then w method old table is = by (in_use_for (with_state w.codes old.serial 
             let serial : (b.serial == old.serial) ≡ true = eq-eqb b.serial old.serial (ap (λ (c : Code). c.serial) one) in
             false≢true (sym e ∙ serial)
 
--- The world between.
+-- The world after the Invalidate.
 abbrev pub between : World → Code → World
 between w old = record w { codes = with_state w.codes old.serial NotEntrant; log = record { event = event.Invalidate old.serial; answer = answer.Done } ∷ w.log }
 
@@ -69,13 +69,13 @@ over w old method slot given = record w {
   log = record { event = event.Install method; answer = answer.Code (given + 1) } ∷ record { event = event.Invalidate old.serial; answer = answer.Done } ∷ w.log;
 }
 
--- The Install is refused, and leaves the world.
+-- The Install is refused and leaves the world unchanged.
 pub record Rests (w : World) (method : ℕ) : Type 0 where
   pub refusal : Refusal
   pub said : answer_to w (event.Install method) ≡ answer.Refused refusal
   pub after_is : after w (event.Install method) ≡ w
 
--- It is the Invalidate, and then the Install.
+-- The Install is an Invalidate followed by an Install.
 pub record Both (w : World) (method : ℕ) (old : Code) : Type 0 where
   pub slot : ℕ
   pub said : answer_to w (event.Install method) ≡ answer.Code (length w.codes + 1)
@@ -108,7 +108,7 @@ free_between w method old table is =
     let q = place_of w method old is in
     free_left w.codes old.serial w.slots (λ j a x e. ap (λ (c : Code). takes_slot c.state) (one_place w.slots w.methods w.codes table j q.0 a old x q.1 e) ∙ used_takes old.state q.2)
 
--- Where it isn't refused, it is both, one after the other.
+-- An accepted Install is both, one after the other.
 pub twice : (w : World) (method : ℕ) (old : Code) → TableIsSound w.slots w.methods w.codes → in_use_for w.codes method ≡ Some old → Rests w method ⊎ Both w method old
 twice w method old table is = on_method (nat_lt method w.methods) refl
   where
@@ -138,7 +138,7 @@ twice w method old table is = on_method (nat_lt method w.methods) refl
     on_method false e = inl (record { refusal = refusal.NoSuchMethod; said = rw e refl; after_is = rw e refl })
     on_method true e = on_slot e (free_slot w.codes w.slots) refl
 
--- What each simple event keeps, each event keeps.
+-- Each event preserves what each simple event preserves.
 pub in_steps : (Inv : World → Type 0) → ((w : World) → Inv w → TableIsSound w.slots w.methods w.codes) → ((w : World) (e : Event) → Simple w e → Inv w → Inv (after w e)) → (w : World) (e : Event) → Inv w → Inv (after w e)
 in_steps Inv table step w e h = each_kind w (λ e. Inv (after w e)) (λ method. on method (in_use_for w.codes method) refl) (λ e simple. step w e simple h) e
   where

@@ -1,4 +1,4 @@
--- Every world that events lead to is sound.
+-- Every reachable world is sound.
 use Rattle.std.proofs.Common.{ℕ, List, ◌<◌, None, ap, ◌∙◌, subst}
 use Rattle.std.specs.Prelude.{not}
 use Rattle.std.proofs.lemmas.List.{length-replicate}

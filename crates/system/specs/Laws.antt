@@ -1,4 +1,4 @@
--- What holds of every world that events lead to, whatever events they are and in whatever order.
+-- Laws of every world, after any events in any order.
 use Rattle.std.specs.Prelude.{◌≡◌, ℕ, Bool, true, false, List, Some, slice_get}
 use Rattle.method_table.specs.declared.Code.{Code}
 use Rattle.method_table.specs.declared.CodeState.{CodeState}
@@ -15,7 +15,7 @@ use Rattle.system.specs.Runs.{world_after}
 abbrev pub HeldIsSafe : Thread → Type 0
 HeldIsSafe t = t.held ≡ true → is_safe t.state ≡ true
 
--- So is each thread of the world.
+-- Every held thread of the world is in a safe state.
 abbrev pub AllHeldAreSafe : World → Type 0
 AllHeldAreSafe w = (place : ℕ) (t : Thread) → thread_at w place ≡ Some t → HeldIsSafe t
 
@@ -23,17 +23,17 @@ AllHeldAreSafe w = (place : ℕ) (t : Thread) → thread_at w place ≡ Some t �
 abbrev pub HeldThreadsAreSafe : Type 0
 HeldThreadsAreSafe = (places slots methods : ℕ) (events : List Event) → AllHeldAreSafe (world_after (start_world places slots methods) events)
 
--- A zombie, or freed: no activation may stand. (nmethod)
+-- Code of which no frame may stand: a zombie, or freed code. (nmethod)
 abbrev pub is_retired : CodeState → Bool
 is_retired Zombie = true
 is_retired Freed = true
 is_retired state = false
 
--- No zombie or freed code stands on any stack.
+-- No frame of a zombie or freed code stands on a stack.
 abbrev pub NoRetiredCodeStands : World → Type 0
 NoRetiredCodeStands w = (position place : ℕ) (code : Code) (t : Thread) → slice_get w.codes position ≡ Some code → is_retired code.state ≡ true
     → thread_at w place ≡ Some t → act (id_of code) t.stack ≡ 0
 
--- So it is after any events.
+-- After any events, no frame of such code stands on a stack.
 abbrev pub RetiredCodesStandNowhere : Type 0
 RetiredCodesStandNowhere = (places slots methods : ℕ) (events : List Event) → NoRetiredCodeStands (world_after (start_world places slots methods) events)

@@ -1,4 +1,4 @@
--- The list of all accepted events with their answers, the newest first, and what is counted and sought in it.
+-- The log: all accepted events with their answers, the newest first, with counts and searches.
 use Rattle.std.specs.Prelude.{ℕ, ◌+◌, Bool, true, false, ◌&&◌, ◌==◌, List, [], ◌∷◌, count_by}
 use Rattle.std.specs.List.{list_any}
 use Rattle.system.specs.declared.events.Act.TheVariants as act
@@ -12,7 +12,7 @@ pub record Entry : Type 0 where
   pub event : Event
   pub answer : Answer
 
--- The event is a Start, an Ask, a Round; a Begin or an End of the place; an Invalidate of the serial; a Look of both.
+-- Tests for a Start, an Ask, a Round, a Begin or End at the place, an Invalidate of the serial, and a Look at both.
 abbrev pub is_start : Event → Bool
 is_start event.Start = true
 is_start event = false
@@ -41,7 +41,6 @@ abbrev pub is_look : ℕ → ℕ → Event → Bool
 is_look serial place (event.Look s p) = (s == serial) && (p == place)
 is_look serial place event = false
 
--- The answer is Clear.
 abbrev pub says_clear : Answer → Bool
 says_clear answer.Clear = true
 says_clear answer = false
@@ -51,7 +50,7 @@ abbrev pub names_thread : ℕ → Answer → Bool
 names_thread name (answer.Thread n place) = n == name
 names_thread name answer = false
 
--- How many names were given out. Names, operations and moments rise by one from 1.
+-- How many names were given out. Names, operations and moments rise by one.
 abbrev pub names_given : List Entry → ℕ
 names_given log = count_by (λ entry. is_start entry.event) log
 
@@ -59,27 +58,27 @@ names_given log = count_by (λ entry. is_start entry.event) log
 abbrev pub operations_given : List Entry → ℕ
 operations_given log = count_by (λ entry. is_ask entry.event) log
 
--- The moment is 1 and the number of rounds.
+-- The moment is 1 plus the number of rounds.
 abbrev pub moment : List Entry → ℕ
 moment log = count_by (λ entry. is_round entry.event) log + 1
 
--- The pair was looked at and found clear.
+-- The place has a Clear look for the code.
 abbrev pub is_looked : List Entry → ℕ → ℕ → Bool
 is_looked log serial place = list_any (λ entry. is_look serial place entry.event && says_clear entry.answer) log
 
--- The log holds the Start of the thread.
+-- The log has the Start of the thread.
 abbrev pub has_started : List Entry → ℕ → Bool
 has_started log name = list_any (λ entry. is_start entry.event && names_thread name entry.answer) log
 
--- The tests pass on entries of the log one after the other, from the newest on. A test sees an entry and those before it.
+-- Entries from the newest on pass these tests in order. A test gets an entry and the entries before it.
 abbrev pub in_order : List (Event → List Entry → Bool) → List Entry → Bool
 in_order [] log = true
 in_order (test ∷ tests) [] = false
 in_order (test ∷ tests) (entry ∷ before) =
     elim (test entry.event before) [ true ↦ in_order tests before | false ↦ in_order (test ∷ tests) before ]
 
--- The log holds, in this order, Invalidate of the code, a Round, a Begin of the place that stands after the Start of its
--- thread, and an End of the place.
+-- The log has in this order: an Invalidate of the code, a Round, a Begin at the place after the thread's Start, and an
+-- End at the place.
 abbrev pub is_published_since : List Entry → ℕ → ℕ → ℕ → Bool
 is_published_since log serial place name =
     in_order ((λ event before. is_end place event)

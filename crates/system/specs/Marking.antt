@@ -1,5 +1,5 @@
--- What the system keeps of a thread and of the open operations, against the definitions: its last marks stand for all marks of
--- the requests.
+-- How the system's threads and open operations represent the world's. Three numbers of a thread replace the sets of
+-- marks.
 use Rattle.std.specs.Prelude.{◌≡◌, ℕ, ◌<◌, ◌≤◌, Bool, true, ◌&&◌, nat_le, List, [], ◌∷◌, Some, slice_get, is_some, if◌then◌else◌}
 use Rattle.frames.specs.declared.CodeId.{CodeId}
 use Rattle.frames.specs.Stack.{times}
@@ -14,13 +14,13 @@ use Rattle.system.specs.Operations.{Requests, Opened, is_marked}
 use Rattle.system.specs.Log.{names_given}
 use Rattle.system.specs.World.{World, is_live}
 
--- The image has the thread's stack, and counts what the thread published.
+-- The image has the thread's stack and its published counts.
 pub record SameImage (image : ImageView) (t : Thread) : Type 0 where
   pub frames : image.frames ≡ t.stack
   pub publishing : image.publishing ≡ is_some t.changed
   pub counted : (code : CodeId) → times code image.counted ≡ part code t
 
--- All of a thread but its marks and moments.
+-- The system's thread has all fields of the world's thread. Marks and moments follow below.
 pub record SameThread (kept : Kept) (t : Thread) : Type 0 where
   pub name : kept.name ≡ t.name
   pub state : kept.state ≡ t.state
@@ -28,11 +28,12 @@ pub record SameThread (kept : Kept) (t : Thread) : Type 0 where
   pub published : kept.published ≡ t.published
   pub image : SameImage kept.image t
 
--- Done for a thread that was told: a census where it was operated, a handshake up to the last one that is done.
+-- Done for a thread that was told: a census if it is operated, a handshake up to the last one done.
 abbrev pub done_by : Opened → Marks → Bool
 done_by o m = if is_census o.request then o.operated else nat_le o.number m.done
 
--- Numbers are told to a thread in rising order, none of which it is a live target is left out; they are done, and cleared, in that order.
+-- Numbers are told to a thread in rising order, skip no operation that has the thread as a live target, and are done
+-- and cleared in this order.
 pub record SameMarks (m : Marks) (requests : Requests) (name : ℕ) : Type 0 where
   pub told_last : (n : ℕ) → is_marked requests.told n name ≡ true → n ≤ m.told
   pub told_is : 0 < m.told → is_marked requests.told m.told name ≡ true
@@ -42,7 +43,8 @@ pub record SameMarks (m : Marks) (requests : Requests) (name : ℕ) : Type 0 whe
   pub cleared_is : (n : ℕ) → is_marked requests.told n name ≡ true → is_marked requests.cleared n name ≡ nat_le n m.cleared
   pub cleared_old : m.cleared ≤ m.told
 
--- The open operation: its live targets are the live threads that it asks among the first names. One for one, the oldest first.
+-- The live targets of an open operation are its targets among the first `names` that live. Lists match one for one, the
+-- oldest first.
 pub record SameOpened (open_ : Open) (o : Opened) (w : World) : Type 0 where
   pub number : open_.number ≡ o.number
   pub request : open_.request ≡ o.request

@@ -22,20 +22,20 @@ use Rattle.system.specs.Operations.{Requests, Opened, is_marked, with_mark, poll
 use Rattle.operations.specs.Requests.{lists, is_target, reply_to}
 use Rattle.system.specs.World.{World}
 
--- What an accepted act changes: the thread, or its place, which gets vacant, or the requests.
+-- The effect of an accepted act: the thread changes, the thread leaves its place vacant, or the requests change.
 pub data Effect : Type 0 where
   becomes : Thread → Effect
   leaves : Effect
   marks : Requests → Effect
 
--- The acts that an open publication allows.
+-- The acts during an open publication.
 abbrev pub may_while_publishing : Act → Bool
 may_while_publishing Change = true
 may_while_publishing End = true
 may_while_publishing Stack = true
 may_while_publishing other = false
 
--- The states in which an act is lawful, of a thread that is held or isn't. A callback runs while the thread is held or serves itself. (JEP 312)
+-- The states in which an act is lawful. A callback runs while the thread is held or serves itself. (JEP 312)
 abbrev pub lawful_in : Act → Bool → State → Bool
 lawful_in Begin held state = held || may_publish state
 lawful_in Wake held state = is_some (step state move.Wake)
@@ -56,41 +56,40 @@ lawful_in other held state = true
 abbrev pub is_lawful : Act → Thread → Bool
 is_lawful act t = lawful_in act t.held t.state
 
--- Where a move leads; is_lawful leaves no move without an end.
+-- The result of a move. After is_lawful every move has a state.
 abbrev pub to_state : Thread → Option State → Verdict Effect
 to_state t None = refused (Illegal t.state)
 to_state t (Some state) = accepted (becomes (record t { state = state })) answer.Done
 
--- A move without a poll.
 abbrev pub move_by : Thread → Move → Verdict Effect
 move_by t move = to_state t (step t.state move)
 
--- What a poll answers.
+-- The answer to a poll.
 abbrev pub go_or_stop : Option ℕ → Answer
 go_or_stop None = answer.Go
 go_or_stop (Some operation) = answer.Stop operation
 
--- Where a poll leads; is_lawful leaves no poll without an end.
+-- The result of a poll. After is_lawful every poll has a state.
 abbrev pub crosses : Thread → Option ℕ → Option State → Verdict Effect
 crosses t poll None = refused (Illegal t.state)
 crosses t poll (Some state) = accepted (becomes (record t { state = state })) (go_or_stop poll)
 
--- A poll: the thread goes on, or stops for the operation. (JEP 312: the poll is per thread)
+-- A poll: the thread goes on, or stops for an operation. (JEP 312: the poll is per thread)
 abbrev pub polls : Requests → Thread → Verdict Effect
 polls requests t = crosses t (poll_of requests t.name) (cross t.state (is_none (poll_of requests t.name)))
 
--- The least code that has to change yet changes, and the index takes the difference.
+-- The least code that is left changes, and the answer has the difference for the index.
 abbrev pub changes : Thread → Option CodeId → Verdict Effect
 changes t None = accepted (becomes t) answer.NoChange
 changes t (Some code) =
     accepted (becomes (record t { changed = Some (code ∷ changed_codes t) }))
     (answer.Changed code.serial (pos (act code t.stack) -ℤ pos (act code t.shown)))
 
--- A frame on top of the stack.
+-- The stack with one more frame on top.
 abbrev pub pushed : Thread → ℕ → Option CodeId → Verdict Effect
 pushed t method code = accepted (becomes (record t { stack = t.stack ++ record { method = method; code = code } ∷ [] })) answer.Entered
 
--- Code in use is entered, all other code sends the call away. (nmethod: a call to not-entrant code is sent away at its entry)
+-- A call enters code in use; other code redirects the call. (nmethod: not-entrant code redirects a call at its entry)
 abbrev pub enters : Thread → ℕ → Option Code → Verdict Effect
 enters t method None = refused Unknown
 enters t method (Some code) =
@@ -103,12 +102,12 @@ abbrev pub calls : List Code → Thread → ℕ → Option ℕ → Verdict Effec
 calls codes t method None = pushed t method None
 calls codes t method (Some serial) = enters t method (code_of codes serial)
 
--- The serial, where one is given, was given out.
+-- A given serial was given out.
 abbrev pub is_known : List Code → Option ℕ → Bool
 is_known codes None = true
 is_known codes (Some serial) = is_some (code_of codes serial)
 
--- A call, with the tests in their order; sent away only after them.
+-- A call, with the tests in their order. A redirected call passes them too.
 abbrev pub enter : World → ℕ → Option ℕ → Thread → Verdict Effect
 enter w method code t =
     unless nat_lt method w.methods refuse NoSuchMethod then
@@ -117,11 +116,10 @@ enter w method code t =
     unless nat_lt (length t.stack) 256 refuse DepthFull then
     calls w.codes t method code
 
--- The stack without its top.
 abbrev pub popped : Thread → Thread
 popped t = record t { stack = take (length t.stack - 1) t.stack }
 
--- The operation was told to the thread of the name; it is done for it; it is cleared for it.
+-- The operation was told to the thread; it was told and isn't done; it was told and isn't cleared.
 abbrev pub was_told : Requests → ℕ → Opened → Bool
 was_told requests name opened = is_marked requests.told opened.number name
 
@@ -131,12 +129,12 @@ is_undone requests name opened = was_told requests name opened && not (is_marked
 abbrev pub is_uncleared : Requests → ℕ → Opened → Bool
 is_uncleared requests name opened = was_told requests name opened && not (is_marked requests.cleared opened.number name)
 
--- With one of the open operations, the oldest that passes; otherwise the event is refused so.
+-- Does the work with the operation found. Without one the event is refused.
 abbrev pub in_found : {A : Type 0} → Refusal → Option Opened → (Opened → Verdict A) → Verdict A
 in_found refusal None work = refused refusal
 in_found refusal (Some opened) work = work opened
 
--- The callback of a handshake, once for each target, on a published stack. (JEP 312: by the thread itself or by the
+-- The callback of a handshake runs once for each target, on a published stack. (JEP 312: by the thread itself or by the
 -- coordinator while it keeps the thread blocked)
 abbrev pub finish_in : Requests → Thread → Opened → Verdict Effect
 finish_in requests t opened =
@@ -150,7 +148,7 @@ finish requests t =
     unless list_any (was_told requests t.name) requests.opened refuse NotTold then
     in_found AlreadyDone (find (is_undone requests t.name) requests.opened) (finish_in requests t)
 
--- The thread may go on once its own work is done. (JEP 312: it doesn't wait for the other threads)
+-- The thread may go on after its own work. (JEP 312: it doesn't wait for the other threads)
 abbrev pub clear_in : Requests → Thread → Opened → Verdict Effect
 clear_in requests t opened =
     unless is_marked requests.done opened.number t.name refuse NotDone then
@@ -163,7 +161,7 @@ clear requests t =
     unless list_any (was_told requests t.name) requests.opened refuse NotTold then
     in_found AlreadyDone (find (is_uncleared requests t.name) requests.opened) (clear_in requests t)
 
--- The coordinator keeps a thread blocked in a safe state. (JEP 312)
+-- The coordinator holds a thread in a safe state. (JEP 312)
 abbrev pub hold : Requests → Thread → Verdict Effect
 hold requests t =
     unless not (is_empty requests.opened) refuse NothingOpen then
@@ -174,12 +172,12 @@ hold requests t =
     unless is_safe t.state refuse NotSafe then
     accepted (becomes (record t { held = true })) answer.Done
 
--- In the oldest open operation.
+-- Does the work with the oldest open operation.
 abbrev pub in_open : {A : Type 0} → List Opened → (Opened → Verdict A) → Verdict A
 in_open [] work = refused NothingOpen
 in_open (opened ∷ others) work = work opened
 
--- What an act does after the common tests.
+-- The acts after the common tests.
 abbrev pub does : World → Act → Thread → Verdict Effect
 does w Begin t = accepted (becomes (record t { changed = Some [] })) answer.Done
 does w Change t = unless is_publishing t refuse NotBegun then changes t (next_change t)
@@ -211,7 +209,7 @@ does w Hold t = hold w.requests t
 does w Release t = unless t.held refuse NotHeld then accepted (becomes (record t { held = false })) answer.Done
 does w Stack t = accepted (becomes t) (answer.Frames t.stack)
 
--- The tests that all acts of a thread have in common, and then its own.
+-- The common tests of all acts, followed by the act.
 abbrev pub here : World → Act → Thread → Verdict Effect
 here w act t =
     unless not (is_publishing t) || may_while_publishing act refuse Publishing then

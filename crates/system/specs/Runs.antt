@@ -12,7 +12,7 @@ use Rattle.system.specs.Log.{Entry}
 use Rattle.system.specs.World.{World}
 use Rattle.system.specs.Step.{outcome}
 
--- Where code in use is replaced, its Invalidate stands before the Install.
+-- The Invalidate of a replaced code is logged before the Install.
 abbrev pub replaced : Option Code → List Entry
 replaced None = []
 replaced (Some old) = record { event = event.Invalidate old.serial; answer = answer.Done } ∷ []
@@ -21,11 +21,11 @@ abbrev pub before : World → Event → List Entry
 before w (event.Install method) = replaced (in_use_for w.codes method)
 before w other = []
 
--- What an accepted event adds to the log, the newest first.
+-- The new log entries of an accepted event, the newest first.
 abbrev pub entries : World → Event → Answer → List Entry
 entries w event answer = record { event = event; answer = answer } ∷ before w event
 
--- A refusal leaves the world; an accepted event joins the log with its answer.
+-- A refusal leaves the world unchanged; an accepted event joins the log with its answer.
 abbrev pub world_of : World → Event → Verdict World → World
 world_of w event (refused refusal) = w
 world_of w event (accepted new answer) = record new { log = entries w event answer ++ w.log }
@@ -35,7 +35,7 @@ abbrev pub answer_of : Verdict World → Answer
 answer_of (refused refusal) = Refused refusal
 answer_of (accepted new answer) = answer
 
--- One step: the world after the event, and the answer.
+-- One step: the world after the event.
 abbrev pub after : World → Event → World
 after w event = world_of w event (outcome w event)
 

@@ -1,4 +1,4 @@
--- Where an operation runs: on a published stack, of a thread at a safe point.
+-- An operation runs on the published stack of a thread at a safe point.
 use Rattle.std.specs.Prelude.{◌≡◌, ◌⊎◌, ℕ, ◌<◌, Bool, true, false, List, [], ◌∷◌, ◌++◌, Some, slice_get}
 use Rattle.frames.specs.declared.CodeId.{CodeId}
 use Rattle.operations.specs.declared.Ask.{Ask}
@@ -25,17 +25,18 @@ abbrev pub is_accepted : Answer → Bool
 is_accepted (answer.Refused refusal) = false
 is_accepted other = true
 
--- No publication is open, and what was shown counts each code as the stack does.
+-- No publication is open, and every code has as many frames in the stack as in the shown stack.
 pub record IsSettled (t : Thread) : Type 0 where
   pub quiet : is_publishing t ≡ false
   pub counts : (code : CodeId) → stack.act code t.stack ≡ stack.act code t.shown
 
--- The thread is held, or serves itself. (JEP 312: by the thread itself or by the coordinator while it keeps the thread blocked)
+-- The thread is held or serves itself. (JEP 312: by the thread itself or by the coordinator while it keeps the thread
+-- blocked)
 abbrev pub IsAtSafePoint : Thread → Type 0
 IsAtSafePoint t = (t.held ≡ true) ⊎ (is_serving t.state ≡ true)
 
--- The operation that a Finish of the thread of the name does: it is open, told to it and not done for it, and each lesser one that
--- is open and told to it is done.
+-- The operation that a Finish of the thread does: it is open, told and not done, and each lesser open operation told to
+-- the thread is done.
 pub record IsNext (requests : Requests) (name : ℕ) (opened : Opened) : Type 0 where
   pub position : ℕ
   pub is_open : slice_get requests.opened position ≡ Some opened
@@ -44,8 +45,9 @@ pub record IsNext (requests : Requests) (name : ℕ) (opened : Opened) : Type 0 
   pub least : (i : ℕ) (o : Opened) → slice_get requests.opened i ≡ Some o → is_marked requests.told o.number name ≡ true → o.number < opened.number
       → is_marked requests.done o.number name ≡ true
 
--- A Finish at the place, answered so: the thread there is settled and at a safe point, in a safe state where it is held; the reply
--- is that of the ask, on its stack, of the handshake that is next for it, which lists it; and that one alone becomes done for it.
+-- A Finish at the place with this answer. The thread is settled and at a safe point, and in a safe state if held. Its
+-- next operation is a handshake that lists it. The reply is that of the ask for its stack, and only this handshake
+-- becomes done for it.
 pub record FinishesSafely (w : World) (place : ℕ) (said : Answer) (later : World) : Type 0 where
   pub thread : Thread
   pub there : thread_at w place ≡ Some thread
@@ -67,8 +69,8 @@ pub record StandsStill (t : Thread) : Type 0 where
   pub held : t.held ≡ true
   pub safe : is_safe t.state ≡ true
 
--- An Operate, answered so: each thread is held in a safe state and settled, so the index counts the stacks as they are, and the
--- answer is the census of these stacks, which misses no code.
+-- An Operate with this answer. Each thread is settled and held in a safe state, so the index counts the stacks as they
+-- are. The answer is the census of these stacks, without a missing code.
 pub record OperatesSafely (w : World) (said : Answer) : Type 0 where
   pub opened : Opened
   pub opened_is : w.requests.opened ≡ opened ∷ []
@@ -78,20 +80,20 @@ pub record OperatesSafely (w : World) (said : Answer) : Type 0 where
   pub complete : (code : CodeId) → 0 < frames_of w code → IsGiven w.codes code
   pub answer_is : said ≡ answer.Census (census w)
 
--- Each accepted Finish among the events, in the world before it.
+-- Each accepted Finish among the events is safe in the world before it.
 abbrev pub FinishesAtSafePoints : ℕ → ℕ → ℕ → List Event → Type 0
 FinishesAtSafePoints places slots methods events = (before rest : List Event) (place : ℕ) → events ≡ before ++ event.At place act.Finish ∷ rest
     → is_accepted (answer_to (world_after (start_world places slots methods) before) (event.At place act.Finish)) ≡ true
     → FinishesSafely (world_after (start_world places slots methods) before) place (answer_to (world_after (start_world places slots methods) before) (event.At place act.Finish))
     (after (world_after (start_world places slots methods) before) (event.At place act.Finish))
 
--- Each accepted Operate among the events, in the world before it.
+-- Each accepted Operate among the events is safe in the world before it.
 abbrev pub OperatesAtSafepoints : ℕ → ℕ → ℕ → List Event → Type 0
 OperatesAtSafepoints places slots methods events = (before rest : List Event) → events ≡ before ++ event.Operate ∷ rest
     → is_accepted (answer_to (world_after (start_world places slots methods) before) event.Operate) ≡ true
     → OperatesSafely (world_after (start_world places slots methods) before) (answer_to (world_after (start_world places slots methods) before) event.Operate)
 
--- So it is with any events.
+-- This holds for any events.
 abbrev pub HandshakesRunAtSafePoints : Type 0
 HandshakesRunAtSafePoints = (places slots methods : ℕ) (events : List Event) → FinishesAtSafePoints places slots methods events
 

@@ -23,39 +23,39 @@ use Rattle.system.specs.Log.{names_given, operations_given, moment, is_looked}
 use Rattle.system.specs.World.{World, threads, live_names, is_live_target, vacant_place, walk, census, covered}
 use Rattle.system.specs.Places.{Effect, becomes, leaves, marks, here, in_open, in_found}
 
--- The place gets a thread, or gets vacant.
+-- Puts a thread at the place, or makes the place vacant.
 abbrev pub with_place : World → ℕ → Option Thread → World
 with_place w place t = record w { places = slice_set w.places place t }
 
--- An accepted act lands in the world.
+-- An accepted act changes the world.
 abbrev pub lands : World → ℕ → Verdict Effect → Verdict World
 lands w place (refused refusal) = refused refusal
 lands w place (accepted (becomes t) answer) = accepted (with_place w place (Some t)) answer
 lands w place (accepted leaves answer) = accepted (with_place w place None) answer
 lands w place (accepted (marks requests) answer) = accepted (record w { requests = requests }) answer
 
--- An act of the thread at a place: first the place, then the thread.
+-- An act of the thread at a place: the tests of the place come first.
 abbrev pub at : World → ℕ → Act → Option (Option Thread) → Verdict World
 at w place act None = refused NoSuchPlace
 at w place act (Some None) = refused (Illegal Vacant)
 at w place act (Some (Some t)) = lands w place (here w act t)
 
--- A new thread: its stack is empty, and it has published nothing.
+-- A new thread has an empty stack and no publication.
 abbrev pub new_thread : ℕ → Thread
 new_thread name = record { name = name; state = New; held = false; published = false; stack = []; shown = []; changed = None }
 
--- The least vacant place gets the next name.
+-- The thread gets the next name and the least vacant place.
 abbrev pub start_at : World → Option ℕ → Verdict World
 start_at w None = refused PlacesFull
 start_at w (Some place) =
     unless nat_lt (names_given w.log) last_number refuse Spent then
     accepted (with_place w place (Some (new_thread (names_given w.log + 1)))) (answer.Thread (names_given w.log + 1) place)
 
--- No thread starts while a safepoint is open. (own choice)
+-- No thread starts during a safepoint. (our own choice)
 abbrev pub start : World → Verdict World
 start w = unless not (is_safepoint w.requests) refuse SafepointOpen then start_at w (vacant_place w.places)
 
--- The new code gets the next serial and the slot; the one that it replaces is not entrant from now on.
+-- The new code gets the next serial and this slot. The code that it replaces becomes not entrant.
 abbrev pub install_in : World → ℕ → Option ℕ → Verdict World
 install_in w method None = refused TableFull
 install_in w method (Some slot) =
@@ -68,38 +68,38 @@ install w method =
     unless nat_lt method w.methods refuse NoSuchMethod then
     install_in w method (free_slot w.codes w.slots)
 
--- With the code of a serial that was given out and isn't freed.
+-- Does the work with the code found. Without one the event is refused.
 abbrev pub of_code : Option Code → (Code → Verdict World) → Verdict World
 of_code None work = refused Unknown
 of_code (Some code) work = work code
 
--- No new activation from now on. (nmethod: in use becomes not entrant)
+-- No thread enters the code from then on. (nmethod: in use becomes not entrant)
 abbrev pub invalidate : World → Code → Verdict World
 invalidate w code =
     unless is_in_use code.state refuse NotInUse then
     accepted (record w { codes = with_state w.codes code.serial NotEntrant }) answer.Done
 
--- A new moment.
+-- The next moment begins.
 abbrev pub round : World → Verdict World
 round w = unless nat_lt (moment w.log) last_number refuse Spent then accepted w answer.Done
 
--- What a look answers.
+-- The answer to a look.
 abbrev pub clear_or_late : Bool → Answer
 clear_or_late true = answer.Clear
 clear_or_late false = answer.Late
 
--- Whether no frame of the code can stand at the place unpublished. Clear is remembered by the log.
+-- Answers whether every frame of the code at the place is published. The log keeps a Clear.
 abbrev pub look : World → ℕ → Code → Verdict World
 look w place code =
     unless is_not_entrant code.state refuse NotNotEntrant then
     unless nat_lt place (length w.places) refuse NoSuchPlace then
     accepted w (clear_or_late (covered w place code.serial))
 
--- The least place that wasn't looked at for the code.
+-- The least place without a Clear look for the code.
 abbrev pub unlooked : World → ℕ → Option ℕ
 unlooked w serial = find (λ place. not (is_looked w.log serial place)) (below (length w.places))
 
--- Where all places were looked at, the count decides. (nmethod: not entrant becomes zombie once no activation is left)
+-- If all places have a Clear look, the count decides. (nmethod: not entrant becomes zombie once no activation is left)
 abbrev pub weigh_all : World → Code → Option ℕ → Verdict World
 weigh_all w code (Some place) = accepted w (answer.NotLooked place)
 weigh_all w code None =
@@ -107,11 +107,11 @@ weigh_all w code None =
     then accepted (record w { codes = with_state w.codes code.serial Zombie }) answer.Retired
     else accepted w (answer.Used (walk w (id_of code)))
 
--- First the places, then the count.
+-- The looks are tested before the count.
 abbrev pub weigh : World → Code → Verdict World
 weigh w code = unless is_not_entrant code.state refuse NotNotEntrant then weigh_all w code (unlooked w code.serial)
 
--- A zombie is purged, and its slot is free. (nmethod)
+-- A zombie is freed with its slot. (nmethod)
 abbrev pub free : World → Code → Verdict World
 free w code =
     unless is_zombie code.state refuse NotZombie then
@@ -127,7 +127,7 @@ ask w request =
     accepted (record w { requests = record w.requests { waiting = w.requests.waiting ++ record { number = operations_given w.log + 1; request = request } ∷ [] } })
     (answer.Asked (operations_given w.log + 1))
 
--- The oldest request is open. Its live targets are those that live now.
+-- The oldest request becomes open. Its live targets are its targets that live at this moment.
 abbrev pub open_oldest : World → List Waiting → Verdict World
 open_oldest w [] = refused QueueEmpty
 open_oldest w (oldest ∷ others) =
@@ -144,32 +144,31 @@ open_oldest w (oldest ∷ others) =
     })
     (answer.Opened oldest.number (kind_of oldest.request))
 
--- The oldest waiting request is a census.
 abbrev pub awaits_safepoint : List Waiting → Bool
 awaits_safepoint [] = false
 awaits_safepoint (oldest ∷ others) = is_census oldest.request
 
--- Up to four handshakes are open, or one census alone. (own choice)
+-- Up to four handshakes are open, or one census alone. (our own choice)
 abbrev pub may_open : Requests → Bool
 may_open requests =
     nat_lt (length requests.opened) 4
     && not (is_safepoint requests)
     && not (awaits_safepoint requests.waiting && not (is_empty requests.opened))
 
--- The oldest waiting request is opened.
+-- Opens the oldest waiting request.
 abbrev pub open_next : World → Verdict World
 open_next w = unless may_open w.requests refuse AlreadyOpen then open_oldest w w.requests.waiting
 
--- A handshake may be told to the names that it lists, a census to each name that was given out.
+-- A handshake may be told to the threads that it lists, a census to each thread whose name was given out.
 abbrev pub may_tell : World → Request → ℕ → Bool
 may_tell w (Handshake targets ask) name = is_target (Handshake targets ask) name
 may_tell w Census name = nat_lt 0 name && nat_le name (names_given w.log)
 
--- The poll of a live target is armed; one that is gone has none.
+-- Arms the poll of a live target. A thread that exited has no poll.
 abbrev pub tell_in : World → ℕ → Opened → Verdict World
 tell_in w name opened = accepted (record w { requests = record w.requests { told = with_mark w.requests.told opened.number name } }) answer.Told
 
--- The oldest of the operations whose live target it is, and that wasn't told to it.
+-- Arms the poll for the oldest operation that has the thread as a live target and wasn't told to it.
 abbrev pub tell_oldest : World → ℕ → List Opened → Verdict World
 tell_oldest w name [] = accepted w answer.Gone
 tell_oldest w name (opened ∷ others) =
@@ -185,11 +184,11 @@ tell w name =
 abbrev pub all_threads : (Thread → Bool) → World → Bool
 all_threads test w = list_all test (threads w.places)
 
--- The census of the number is operated.
+-- The operation of this number becomes operated.
 abbrev pub operated_if : ℕ → Opened → Opened
 operated_if number opened = if opened.number == number then record opened { operated = true } else opened
 
--- A census of the stacks of all threads, which are all held. (HotSpot's runtime overview: at a safepoint stacks don't change)
+-- A census of all stacks, while all threads are held. (HotSpot's runtime overview: at a safepoint stacks don't change)
 abbrev pub operate : World → Opened → Verdict World
 operate w opened =
     unless is_census opened.request refuse NotOf then
@@ -205,13 +204,13 @@ operate w opened =
     })
     (answer.Census (census w))
 
--- A census is operated, and each live target is cleared.
+-- The operation is over: a census is operated, and the operation is cleared for each live target.
 abbrev pub is_over : World → Opened → Bool
 is_over w opened =
     (not (is_census opened.request) || opened.operated)
     && list_all (λ name. not (is_live_target w opened name) || is_marked w.requests.cleared opened.number name) opened.live
 
--- The operation is over, and no target of it is held. (its marks stay)
+-- Closes an operation that is over, while no target is held. (Its marks stay)
 abbrev pub close : World → Opened → Verdict World
 close w opened =
     unless all_threads (λ t. not (t.held && is_target opened.request t.name)) w refuse Held then
@@ -219,18 +218,18 @@ close w opened =
     accepted (record w { requests = record w.requests { opened = filter (λ o. not (o.number == opened.number)) w.requests.opened } })
     (answer.Closed opened.number)
 
--- The oldest open operation, or that of the number.
+-- Closes the operation of this number, or the oldest one.
 abbrev pub close_of : World → Option ℕ → Verdict World
 close_of w None = in_open w.requests.opened (close w)
 close_of w (Some number) =
     unless not (is_empty w.requests.opened) refuse NothingOpen then
     in_found NotOf (find (λ o. o.number == number) w.requests.opened) (close w)
 
--- The code's count as the threads published it.
+-- The published count of the code.
 abbrev pub count : World → Code → Verdict World
 count w code = accepted w (answer.Count (walk w (id_of code)))
 
--- The answer to a search.
+-- The code found, or the answer that there is none.
 abbrev pub code_or_none : Option Code → Answer
 code_or_none None = answer.NoCode
 code_or_none (Some code) = answer.Code code.serial
@@ -239,7 +238,7 @@ code_or_none (Some code) = answer.Code code.serial
 abbrev pub resolve : World → ℕ → Verdict World
 resolve w method = unless nat_lt method w.methods refuse NoSuchMethod then accepted w (code_or_none (in_use_for w.codes method))
 
--- Each event.
+-- The outcome of each event.
 abbrev pub outcome : World → Event → Verdict World
 outcome w (event.At place act) = at w place act (slice_get w.places place)
 outcome w event.Start = start w

@@ -11,7 +11,7 @@ use Rattle.system.specs.Threads.{Thread, part}
 use Rattle.system.specs.Operations.{Requests, Opened, no_requests}
 use Rattle.system.specs.Log.{Entry, is_published_since}
 
--- The sizes, a thread or none at each place, all codes, the requests, and the log.
+-- The sizes, the places, all codes, the requests and the log.
 pub record World : Type 0 where
   pub slots : ℕ
   pub methods : ℕ
@@ -20,7 +20,7 @@ pub record World : Type 0 where
   pub requests : Requests
   pub log : List Entry
 
--- The start: vacant places, no code, no request, an empty log.
+-- The start world has vacant places, no code, no request and an empty log.
 abbrev pub start_world : ℕ → ℕ → ℕ → World
 start_world places slots methods =
     record { slots = slots; methods = methods; places = replicate places None; codes = []; requests = no_requests; log = [] }
@@ -35,11 +35,11 @@ threads (Some t ∷ places) = t ∷ threads places
 abbrev pub live_names : World → List ℕ
 live_names w = map (λ t. t.name) (threads w.places)
 
--- The thread of the name lives.
+-- A live thread has this name.
 abbrev pub is_live : World → ℕ → Bool
 is_live w name = list_any (λ t. t.name == name) (threads w.places)
 
--- A target that was live when the operation was opened and is live now.
+-- A target that was live when the operation was opened and still lives.
 abbrev pub is_live_target : World → Opened → ℕ → Bool
 is_live_target w opened name = among name opened.live && is_live w name
 
@@ -49,31 +49,31 @@ vacant_place [] = None
 vacant_place (None ∷ places) = Some 0
 vacant_place (Some t ∷ places) = option_map (λ place. 1 + place) (vacant_place places)
 
--- How often a place counts the code: a vacant one counts nothing.
+-- A place's published count of the code; a vacant place counts nothing.
 abbrev pub part_at : CodeId → Option Thread → ℕ
 part_at code None = 0
 part_at code (Some t) = part code t
 
--- The index of a code: its count over the places, as each thread last published it.
+-- The index of a code: the sum of its published counts over all places.
 abbrev pub walk : World → CodeId → ℕ
 walk w code = sum_by (part_at code) w.places
 
--- The frames of a code over the stacks as they are.
+-- The frames of a code on all stacks.
 abbrev pub frames_of : World → CodeId → ℕ
 frames_of w code = sum_by (λ t. act code t.stack) (threads w.places)
 
--- The frames of each code over the stacks as they are, rising, zeros left out. (HotSpot's runtime overview: at a safepoint
--- stacks can be examined)
+-- The number of frames of each code on all stacks, in rising serial, without zeros. (HotSpot's runtime overview: at a
+-- safepoint stacks can be examined)
 abbrev pub census : World → List CodeCount
 census w = filter (λ counted. not (counted.count == 0)) (map (λ code. record { serial = code.serial; count = frames_of w (id_of code) }) w.codes)
 
--- No frame of the code can stand at the place that isn't published: it is vacant, or its thread never ended a publication, or
--- it began one, and ended it, after a round after the code was invalidated.
+-- Every frame of the code at the place is published: the place is vacant, or its thread ended no publication yet, or
+-- its thread began and ended a publication after a round after the code's invalidation.
 abbrev pub is_covered_at : List Entry → ℕ → ℕ → Option Thread → Bool
 is_covered_at log serial place None = true
 is_covered_at log serial place (Some t) = not t.published || is_published_since log serial place t.name
 
--- The thread at a place, none where there is no such place.
+-- The thread at a place, if any.
 abbrev pub found : Option (Option Thread) → Option Thread
 found None = None
 found (Some t) = t

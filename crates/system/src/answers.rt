@@ -1,4 +1,4 @@
-// Answers to events, and why an event is refused.
+// Answers to events, and refusals.
 ghost use Rattle.std.specs.Prelude.{◌≡◌, IfOk};
 
 use frames::Frame;
@@ -48,14 +48,14 @@ pub enum Refusal {
     NotAllHeld,
 }
 
-/// A code's serial, and how many frames it has.
+/// A code's serial and its number of frames.
 #[derive(Clone, Copy, Debug, PartialEq, Eq, Drop)]
 pub struct CodeCount {
     pub serial: u64,
     pub count: u32,
 }
 
-/// What a census counted, in rising serial.
+/// The result of a census, in rising serial.
 #[derive(Debug, Drop)]
 pub struct CountList {
     counts: Box<Vec<CodeCount>>,
@@ -85,7 +85,8 @@ impl CountList {
     }
 }
 
-/// The answer to an event. Places are those of threads, all other numbers are names, serials, operations or counts.
+/// The answer to an event. A `usize` is a place; every other number is a name, serial, operation, count or difference
+/// of counts.
 #[derive(Debug, Drop)]
 pub enum Answer {
     Done,
@@ -116,7 +117,7 @@ pub enum Answer {
     State(CodeState),
     Refused(Refusal),
 }
-/// Frames, bottom first.
+/// The frames of a stack, the bottom first.
 #[derive(Debug, Drop)]
 pub struct FrameList {
     frames: Box<Vec<Frame>>,

@@ -1,4 +1,4 @@
-// The events of the codes, and of their reclaiming.
+// The events that install and reclaim codes.
 ghost use Rattle.std.specs.Prelude.{◌≡◌, ◌<◌, ◌≤◌, length, slice_set, IfOk, OnErr, IfSome, IfNone};
 ghost use Rattle.method_table.specs.Codes.{unfreed};
 ghost use Rattle.system.specs.declared.events.Event.TheVariants as events;
@@ -15,7 +15,7 @@ use method_table::table::{FreeFault, InstallFault, InvalidateFault, RetireFault}
 use method_table::{Code, CodeState};
 use std::alloc::AllocError;
 
-// What is written down of a code that a new one replaces: it is as after an invalidation of its own.
+// Records the invalidation of a code that an install replaced.
 fn note_replaced(records: &mut Vec<Record>, replaced: Option<CodeId>, moment: u64)
     requires { IfSome replaced (λ id. id.slot < length records.old.items) }
     ensures some { IfSome replaced
@@ -28,8 +28,12 @@ fn note_replaced(records: &mut Vec<Record>, replaced: Option<CodeId>, moment: u6
 }
 
 impl Core {
-    /// A new code in use for the method, in the least free slot. The code that was in use for it isn't entered from now on, as after
-    /// an invalidation at this moment.
+    /// Installs a new code for the method in the least free slot. The code that it replaces becomes not entrant, as by
+    /// an Invalidate at this moment.
+    /// Refusals in this order: `NoSuchMethod`, `TableFull`, `SerialsSpent`.
+    ///
+    /// # Errors
+    /// Memory is refused, and the event would be accepted.
     pub fn install(&mut self, method: u64) -> Result<Answer, AllocError>
         requires world { OfWorld self.old }
         requires few { length self.old.places.items ≤ 64 }
@@ -54,7 +58,7 @@ impl Core {
         }
     }
 
-    /// The code isn't entered from now on; its invalidation has this moment.
+    /// Makes a code in use not entrant, and records the moment. Refusals in this order: `Unknown`, `NotInUse`.
     pub fn invalidate(&mut self, serial: u64) -> Answer
         requires few { length self.old.places.items ≤ 64 }
         requires recorded { length self.old.records.items ≡ self.old.table.slots }
@@ -73,7 +77,7 @@ impl Core {
         }
     }
 
-    /// The next moment.
+    /// Begins the next moment. Refused with `Spent` after the last moment.
     pub fn round(&mut self) -> Answer
         ensures { Does events.Round self.old result self.new }
     {
@@ -84,8 +88,10 @@ impl Core {
         Answer::Done
     }
 
-    /// Whether no frame of the code can stand unpublished at the place: it is vacant, its thread
-    /// published nothing yet, or published its stack after the invalidation.
+    /// Answers whether every frame of the code at the place is published, and records a `Clear`. That holds if the
+    /// place is vacant, its thread ended no publication yet, or its last ended publication began in a later moment than
+    /// the invalidation.
+    /// Refusals in this order: `Unknown`, `NotNotEntrant`, `NoSuchPlace`.
     pub fn look(&mut self, serial: u64, place: usize) -> Answer
         requires few { length self.old.places.items ≤ 64 }
         requires recorded { length self.old.records.items ≡ self.old.table.slots }
@@ -106,8 +112,8 @@ impl Core {
         Answer::Clear
     }
 
-    /// The least place that wasn't looked at; then the code's count; and a code that counts nothing
-    /// becomes a zombie.
+    /// Answers the least place without a `Clear` look, or else the code's count if it isn't 0. Otherwise the code
+    /// becomes a zombie. Refusals in this order: `Unknown`, `NotNotEntrant`.
     pub fn weigh(&mut self, serial: u64) -> Answer
         requires few { length self.old.places.items ≤ 64 }
         requires recorded { length self.old.records.items ≡ self.old.table.slots }
@@ -131,7 +137,7 @@ impl Core {
         }
     }
 
-    /// The slot of a zombie gets free.
+    /// Frees a zombie and its slot. Refusals in this order: `Unknown`, `NotZombie`.
     pub fn free(&mut self, serial: u64) -> Answer
         ensures { Does (events.Free serial) self.old result self.new }
     {
@@ -142,7 +148,7 @@ impl Core {
         }
     }
 
-    /// How many frames of the code the threads published.
+    /// Answers how many frames of the code are published. Refused with `Unknown` for a freed code too.
     pub fn count(&self, serial: u64) -> Answer
         ensures { Does (events.Count serial) self.now result self.now }
     {
@@ -152,7 +158,7 @@ impl Core {
         }
     }
 
-    /// The code's state, freed codes included.
+    /// Answers the code's state, also of a freed code. Refused with `Unknown` if the serial was never given out.
     pub fn code_state(&self, serial: u64) -> Answer
         ensures { Does (events.CodeState serial) self.now result self.now }
     {
@@ -162,7 +168,7 @@ impl Core {
         }
     }
 
-    /// The code in use for the method.
+    /// Answers the method's code in use. Refused with `NoSuchMethod`.
     pub fn resolve(&self, method: u64) -> Answer
         ensures { Does (events.Resolve method) self.now result self.now }
     {
@@ -175,7 +181,7 @@ impl Core {
         }
     }
 
-    // The code of the serial, where it is not entrant.
+    // The code of the serial if it is not entrant.
     fn not_entrant(&self, serial: u64) -> Result<Code, Refusal>
         ensures value { result ≡ not_entrant (unfreed self.now.table.codes serial) }
         ensures slot { IfOk result (λ code. code.slot < self.now.table.slots) }
@@ -190,7 +196,7 @@ impl Core {
     }
 }
 
-// Nothing is published at the place, or what is published is later than the moment.
+// The place has no published stack, or the last ended publication began in a later moment.
 fn is_clear(left: u64, place: &Option<Thread>) -> bool
     ensures { result ≡ is_clear left place.now }
 {

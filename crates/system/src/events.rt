@@ -6,7 +6,7 @@ ghost use Rattle.system.specs.Memory.{copies_freely};
 use operations::Request;
 use std::alloc::{AllocError, Global};
 
-/// What happens at one place.
+/// An act of the thread at a place, or of the coordinator on that thread.
 #[derive(Clone, Copy, Debug, PartialEq, Eq, Drop)]
 pub enum Act {
     Begin,
@@ -30,7 +30,7 @@ pub enum Act {
     Stack,
 }
 
-/// An event: an act at a place, or one of the whole.
+/// An event: an act at a place, or an event of the whole system.
 #[derive(Debug, Drop)]
 pub enum Event {
     At(usize, Act),
@@ -45,7 +45,7 @@ pub enum Event {
     Open,
     Tell(u64),
     Operate,
-    /// Of the open operation of this number; without one, of the oldest.
+    /// Closes the open operation of this number, or the oldest one.
     Close(Option<u64>),
     Count(u64),
     CodeState(u64),
@@ -53,7 +53,7 @@ pub enum Event {
 }
 
 impl Event {
-    /// A copy. Only the names of a handshake take memory.
+    /// Copies the event. Only the names of a handshake need memory.
     pub fn copied(&self, alloc: Global) -> Result<Event, AllocError>
         ensures same { IfOk result (λ event. event ≡ self.now) }
         ensures succeeds { copies_freely self.now ≡ true → IsOk result }

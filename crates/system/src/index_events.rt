@@ -1,4 +1,4 @@
-// The events that count frames: a change of the open publication, and a census.
+// The events that use the index: a change of the open publication, and a census.
 ghost use Rattle.std.specs.Prelude.{◌≡◌, ◌≤◌, length, map, IfOk, OnErr};
 ghost use Rattle.system.specs.declared.events.Act.TheVariants as acts;
 ghost use Rattle.system.specs.declared.events.Event.TheVariants as events;
@@ -12,7 +12,6 @@ use crate::places::change_at;
 use crate::safepoints::census_refusal;
 use std::alloc::{AllocError, Global};
 
-// The counts under their names.
 fn code_counts(alloc: Global, counts: &[(u64, u32)]) -> Result<Vec<CodeCount>, AllocError>
     ensures { IfOk result (λ list. list.items ≡ map named counts.now) }
 {
@@ -26,7 +25,8 @@ fn code_counts(alloc: Global, counts: &[(u64, u32)]) -> Result<Vec<CodeCount>, A
 }
 
 impl Core {
-    /// The thread at the place counts its next change, and the index takes the difference.
+    /// Does the next change of the thread's open publication, and adds the difference to the index. Refusals in this
+    /// order: `NoSuchPlace`, `Illegal` for a vacant place, `NotBegun`.
     #[inline(always)]
     pub fn change(&mut self, place: usize) -> Answer
         requires few { length self.old.places.items ≤ 64 }
@@ -44,7 +44,7 @@ impl Core {
         }
     }
 
-    // Why a census isn't taken now: the first test that fails.
+    // Why a census is refused: the first test that fails.
     fn operate_refusal(&self) -> Option<Refusal>
         ensures { result ≡ operate_refusal self.now.requests.opens self.now.places.items }
     {
@@ -60,7 +60,6 @@ impl Core {
         census_refusal(&self.places)
     }
 
-    // The counts of the index, in rising serial.
     fn census(&self, alloc: Global) -> Result<CountList, AllocError>
         ensures { IfOk result (λ counts. IsCensus self.now.index counts) }
     {
@@ -69,7 +68,11 @@ impl Core {
         Ok(list)
     }
 
-    /// The frames of each code over all stacks, which are all held and published: the census is operated.
+    /// Operates the open census: answers the number of frames of each code over all stacks.
+    /// Refusals in this order: `NothingOpen`, `NotOf`, `AlreadyDone`, `NotAllHeld`, `Publishing`, `Unpublished`.
+    ///
+    /// # Errors
+    /// Memory is refused, and the event would be accepted.
     pub fn operate(&mut self, alloc: Global) -> Result<Answer, AllocError>
         ensures does { IfOk result (λ answer. Does events.Operate self.old answer self.new) }
         ensures refused { OnErr result (self.new ≡ self.old) }

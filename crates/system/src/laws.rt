@@ -1,43 +1,43 @@
-// Laws of all worlds that events lead to.
+// Laws of all worlds to which events lead.
 ghost use Rattle.system.specs.Laws.{HeldThreadsAreSafe, RetiredCodesStandNowhere};
 ghost use Rattle.system.specs.Moments.{CoveredIsByMoments};
 ghost use Rattle.system.specs.Ran.{OperationsRunAtMostOnce};
 ghost use Rattle.system.specs.Safepoints.{CensusesRunAtSafepoints, HandshakesRunAtSafePoints};
 ghost use Rattle.system.specs.Facts.{WorldsAreSound};
 
-/// A held thread is in a safe state, whatever happened.
+/// A held thread is in a safe state, after any events.
 pub fn held_threads_are_safe()
     ensures { HeldThreadsAreSafe }
 {}
 
-/// The facts by which a compact representation of a world is true hold after any events.
+/// Every reachable world meets the facts by which the code's compact state is enough.
 pub fn worlds_are_sound()
     ensures { WorldsAreSound }
 {}
 
-/// For a code that was invalidated, a place is covered exactly where nothing is published there, or what is published is later
-/// than the invalidation.
+/// A place is covered for an invalidated code if and only if no stack is published there, or the published stack is
+/// later than the invalidation.
 pub fn covering()
     ensures { CoveredIsByMoments }
 {}
 
-/// No zombie or freed code stands on any stack, whatever happened.
+/// No frame of a zombie or freed code stands on a stack, after any events.
 pub fn reclaiming()
     ensures { RetiredCodesStandNowhere }
 {}
 
-/// Each handshake was finished at most once by each thread, and each census was operated at most once, whatever happened.
+/// Each thread finishes each handshake at most once, and each census is operated at most once, in any list of events.
 pub fn running_once()
     ensures { OperationsRunAtMostOnce }
 {}
 
-/// Wherever a Finish is accepted, its thread is settled and at a safe point, in a safe state where it is held, and the reply is
-/// that of the handshake's ask on its stack.
+/// In an accepted Finish the thread is settled and at a safe point, and in a safe state if held. The reply is that of
+/// the handshake's ask for the thread's stack.
 pub fn handshakes_at_safe_points()
     ensures { HandshakesRunAtSafePoints }
 {}
 
-/// Wherever an Operate is accepted, each thread is held in a safe state and settled, the index counts the stacks as they are, and
+/// In an accepted Operate each thread is settled and held in a safe state, the index counts the stacks as they are, and
 /// the answer is their census.
 pub fn censuses_at_safepoints()
     ensures { CensusesRunAtSafepoints }

@@ -1,5 +1,5 @@
-//! What the safepoint and handshake coordinator does: its events, its answers, and the system that answers them.
-//! `replay` feeds it lines, and `tie` and `differential_schedule` hold the running layer against it.
+//! The core of the safepoint and handshake coordinator: its events, its answers, and the system that does events.
+//! `replay` gives it the lines of a run. `tie` and `differential_schedule` compare the running layer with it.
 //! Read `crates/system/README.md` first, then `src/machine.rt` (`run`) and `specs/Step.antt`.
 #![tactic(auto)]
 

@@ -1,4 +1,4 @@
-// The system: it does events, and answers them.
+// The system, which does events and answers them.
 ghost use Rattle.std.specs.Prelude.{◌≡◌, ◌≤◌, ◌⊎◌, ℕ, List, [], ◌∷◌, ◌++◌, length, take, true, false, IfOk, IsOk, OnOk, OnErr, IfErr, IfSome, IfNone};
 ghost use Rattle.system.specs.declared.events.Event.{Event as TheEvent};
 ghost use Rattle.system.specs.declared.machine.NewFault.TheVariants as NewFaults;
@@ -25,7 +25,7 @@ use std::error::Error;
 use std::fmt;
 use std::marker::Model;
 
-/// The coordinator's core: it does events one at a time, and answers them as the definitions do.
+/// The coordinator's core. It does one event at a time and gives the answers of the definitions.
 #[derive(Drop)]
 pub struct System {
     core: Core,
@@ -44,7 +44,7 @@ impl Model for System {
     ghost invariant = { λ s. (events : List TheEvent) × StandsFor s.core events × IsSized s.core };
 }
 
-/// Why no system is made.
+/// Why a system isn't made.
 #[derive(Clone, Copy, Debug, PartialEq, Eq, Drop)]
 pub enum NewFault {
     /// A size is 0 or above its limit: 64 places, 1024 slots, 256 methods.
@@ -64,8 +64,8 @@ impl fmt::Display for NewFault {
 
 impl Error for NewFault {}
 
-/// Memory was refused at the event at this position; or, at 0, for the answers. The events before it are done and answered, and
-/// no other.
+/// A run that stopped since memory was refused: for the event at this position or, at position 0, perhaps for the list
+/// of answers. The events before the position are done and answered, and no others.
 #[derive(Debug, Drop)]
 pub struct Stopped {
     pub answers: Vec<Answer>,
@@ -73,7 +73,10 @@ pub struct Stopped {
 }
 
 impl System {
-    /// A system of these sizes, which stands for no event yet.
+    /// Makes a system with vacant places, no codes and no requests.
+    ///
+    /// # Errors
+    /// `BadSize`, then `NoMemory`.
     pub fn new(
         alloc: Global,
         places: usize,
@@ -97,8 +100,11 @@ impl System {
         }
     }
 
-    /// Does the event, and answers it. Where memory is refused, nothing was done; that is only where the event takes memory and
-    /// would be accepted.
+    /// Does the event and returns its answer. A refused event changes nothing, and its answer names the refusal.
+    ///
+    /// # Errors
+    /// Memory is refused, and nothing is done. Only Start, Install, Ask, Operate and Stack need memory, and only if
+    /// they would be accepted.
     pub fn apply(&mut self, alloc: Global, event: Event) -> Result<Answer, AllocError>
         ensures answered { IfOk result (λ answer. Next self.old event answer self.new) }
         ensures refused { OnErr result (self.new ≡ self.old) }
@@ -110,8 +116,15 @@ impl System {
         apply_to(&mut self.core, alloc, event)
     }
 
-    /// Does the events one after another, and answers them. Room for the answers is reserved first: where that is refused, nothing
-    /// is done. After that memory is refused only at an event that takes memory and would be accepted.
+    /// Does the events in order and returns their answers. Memory for the answers is reserved first.
+    ///
+    /// # Errors
+    /// `Stopped`: memory is refused for the answers, and nothing is done; or for an event that needs memory and would
+    /// be accepted, and the events before it are done.
+    ///
+    /// # Example
+    /// `system.run(alloc, &[Event::Start, Event::Install(0), Event::Count(1)])` on a new system returns `Thread(1, 0)`,
+    /// `Code(1)` and `Count(0)`: the thread 1 at place 0, the code of serial 1, and no frames of it.
     pub fn run(&mut self, alloc: Global, events: &[Event]) -> Result<Vec<Answer>, Stopped>
         ensures answered { (before : List TheEvent) → StandsFor self.old before →
             IfOk result (λ said. (said.items ≡ answers (world_by self.old before) events.now)
@@ -154,7 +167,7 @@ impl System {
         Ok(said)
     }
 
-    // Applies an event that is lent. It is copied where it isn't refused.
+    // Does a borrowed event. The event is copied only if it isn't refused.
     fn apply_copy(&mut self, alloc: Global, event: &Event) -> Result<Answer, AllocError>
         ensures answered { IfOk result (λ answer. Next self.old event.now answer self.new) }
         ensures refused { OnErr result (self.new ≡ self.old) }
@@ -176,7 +189,7 @@ fn are_sizes(places: usize, slots: usize, methods: usize) -> bool
     1 <= places && places <= 64 && 1 <= slots && slots <= 1024 && 1 <= methods && methods <= 256
 }
 
-// What a system of these sizes keeps at the start.
+// The state of a new system of these sizes.
 fn new_core(alloc: Global, places: usize, slots: usize, methods: usize) -> Result<Core, AllocError>
     requires { are_sizes places slots methods ≡ true }
     ensures { IfOk result (λ core. StandsFor core [] × (places_of core ≡ places)
@@ -197,7 +210,7 @@ fn new_core(alloc: Global, places: usize, slots: usize, methods: usize) -> Resul
     })
 }
 
-// Why an event is refused, of those whose copy takes memory.
+// The refusal of an event whose copy needs memory.
 fn refusal_before_copy(core: &Core, event: &Event) -> Option<Refusal>
     ensures refused { IfSome result
         (λ refusal. Does event.now core.now (Answers.Refused refusal) core.now) }
@@ -209,7 +222,6 @@ fn refusal_before_copy(core: &Core, event: &Event) -> Option<Refusal>
     }
 }
 
-// Each event has its own method.
 fn apply_to(core: &mut Core, alloc: Global, event: Event) -> Result<Answer, AllocError>
     requires world { OfWorld core.old }
     requires sized { IsSized core.old }

@@ -1,4 +1,4 @@
-// The open operations, in a list that takes no memory.
+// The open operations, in a list that never grows its memory.
 ghost use Rattle.std.specs.Prelude.{◌≡◌, ◌==◌, [], ◌∷◌, ◌++◌, ◌<◌, length, IfOk, remove, slice_get, option_copied};
 ghost use Rattle.std.specs.List.{position};
 ghost use Rattle.system.specs.Kept.Censuses.{operated};
@@ -11,7 +11,7 @@ use std::marker::Model;
 /// How many operations can be open.
 pub const OPEN: usize = 4;
 
-/// The open operations, the oldest first. There is room for four from the start.
+/// The open operations, the oldest first. Memory for four is reserved at the start.
 #[derive(Drop)]
 pub struct Opens {
     items: Vec<Open>,
@@ -43,14 +43,14 @@ impl Opens {
         &self.items
     }
 
-    /// The one that was opened first.
+    /// Returns the operation that was opened first.
     pub fn oldest(&self) -> Option<&Open>
         ensures { option_copied result ≡ slice_get self.now 0 }
     {
         self.items.first()
     }
 
-    /// Where the operation of the number stands; without a number, the oldest one's place.
+    /// Returns the index of the operation of this number, or without a number the index of the oldest.
     pub fn place_of(&self, number: Option<u64>) -> Option<usize>
         ensures { result ≡ place_of number self.now }
     {
@@ -66,7 +66,7 @@ impl Opens {
         self.items.iter().position(|open| open.number == number)
     }
 
-    /// Takes no memory.
+    /// Adds an operation. Doesn't allocate.
     pub fn push(&mut self, open: Open)
         requires { length self.old < 4 }
         ensures { self.new ≡ self.old ++ «open» ∷ [] }
@@ -74,7 +74,7 @@ impl Opens {
         self.items.push_reserved(open);
     }
 
-    /// The one at the position is open no more.
+    /// Removes the operation at this index.
     pub fn take(&mut self, at: usize)
         requires { at < length self.old }
         ensures { self.new ≡ remove self.old at }
@@ -82,7 +82,7 @@ impl Opens {
         let _closed = self.items.remove(at);
     }
 
-    /// The oldest, which is a census, is operated.
+    /// Marks the oldest operation, which is a census, as operated.
     pub fn set_operated(&mut self)
         ensures { self.new ≡ operated self.old }
     {

@@ -1,4 +1,4 @@
-// The places, and the acts of the threads at them.
+// The places, and the acts of their threads.
 ghost use Rattle.std.specs.Prelude.{◌≡◌, ◌<◌, ◌≤◌, ℕ, List, length, Some, None, IfOk, OnErr, slice_get, slice_set, true, replicate};
 ghost use Rattle.system.specs.declared.answers.Answer.TheVariants;
 ghost use Rattle.system.specs.Kept.Acts.{is_plain};
@@ -14,7 +14,6 @@ use method_table::table::MethodTable;
 use std::alloc::{AllocError, Global};
 use thread_state::State;
 
-// The answer to what a thread did.
 fn answer_of(outcome: Result<Answer, Refusal>) -> Answer
     ensures { result ≡ answer_here outcome }
 {
@@ -24,7 +23,8 @@ fn answer_of(outcome: Result<Answer, Refusal>) -> Answer
     }
 }
 
-/// The thread at the place does a plain act, in a system with these codes, these open operations and this moment.
+/// Does a plain act of the thread at the place, with these codes, open operations and moment.
+/// Refusals in this order: `NoSuchPlace`, `Illegal` for a vacant place, those of the act.
 pub fn act_at(
     places: &mut Vec<Option<Thread>>,
     place: usize,
@@ -51,9 +51,10 @@ pub fn act_at(
     }
 }
 
-/// The thread at the place counts its next change.
+/// Does the next change of the thread's open publication.
+/// Refusals in this order: `NoSuchPlace`, `Illegal` for a vacant place, `NotBegun`.
 ///
-/// It stands in the caller, as all here that answers does: so no answer goes through memory.
+/// This function and the next two are inlined, so that no answer goes through memory.
 #[inline(always)]
 pub fn change_at(places: &mut Vec<Option<Thread>>, place: usize) -> Result<Option<Change>, Refusal>
     ensures { DidChange place places.old.items places.new.items result }
@@ -67,7 +68,8 @@ pub fn change_at(places: &mut Vec<Option<Thread>>, place: usize) -> Result<Optio
     }
 }
 
-/// The thread at the place leaves it.
+/// Lets the thread at the place exit, and makes the place vacant.
+/// Refusals in this order: `NoSuchPlace`, `Illegal` for a vacant place, those of `exit_refusal`.
 #[inline(always)]
 pub fn exit_at(places: &mut Vec<Option<Thread>>, place: usize) -> Answer
     ensures { DidExit place places.old.items places.new.items result }
@@ -86,7 +88,11 @@ pub fn exit_at(places: &mut Vec<Option<Thread>>, place: usize) -> Answer
     Answer::Exited(name)
 }
 
-/// The frames of the thread at the place, bottom first.
+/// Returns the frames of the thread at the place, the bottom first. Refusals in this order: `NoSuchPlace`, `Illegal`
+/// for a vacant place.
+///
+/// # Errors
+/// Memory is refused.
 #[inline(always)]
 pub fn stack_at(
     alloc: Global,
@@ -108,7 +114,7 @@ pub fn stack_at(
     }
 }
 
-/// The least vacant place.
+/// Returns the least vacant place.
 pub fn vacant_place(places: &[Option<Thread>]) -> Option<usize>
     ensures { result ≡ vacant_place places.now }
 {
@@ -120,7 +126,7 @@ pub fn vacant_place(places: &[Option<Thread>]) -> Option<usize>
     None
 }
 
-/// So many vacant places.
+/// Makes this many vacant places.
 pub fn vacant_places(alloc: Global, count: usize) -> Result<Vec<Option<Thread>>, AllocError>
     ensures { IfOk result (λ places. places.items ≡ replicate count None) }
 {

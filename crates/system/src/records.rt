@@ -1,10 +1,10 @@
-// What the system writes down of a code that isn't entrant, by its slot.
+// Records of codes that aren't entrant, by slot.
 ghost use Rattle.std.specs.Prelude.{◌≡◌, ◌<◌, ◌≤◌, ℕ, true, false, IfOk, IfSome, IfNone, slice_set, slice_index_or, replicate, length};
 ghost use Rattle.system.specs.Kept.Records.{new_record, with_look};
 
 use std::alloc::{AllocError, Global};
 
-/// The moment of the invalidation, and the places that were looked at and found clear.
+/// The moment of a code's invalidation, and the places with a `Clear` look.
 #[derive(Clone, Copy, Debug, PartialEq, Eq, Drop)]
 pub struct Record {
     pub left: u64,
@@ -12,7 +12,7 @@ pub struct Record {
 }
 
 impl Record {
-    /// Invalidated at this moment, no place looked at.
+    /// Makes a record of an invalidation at this moment, without looks.
     pub fn of(left: u64) -> Record
         ensures { result ≡ new_record left }
     {
@@ -22,7 +22,7 @@ impl Record {
         }
     }
 
-    /// The place was looked at and found clear.
+    /// Records a `Clear` look at the place.
     pub fn look(&mut self, place: usize)
         requires { place < 64 }
         ensures { self.new ≡ with_look self.old place }
@@ -30,7 +30,7 @@ impl Record {
         self.looked[place] = true;
     }
 
-    /// The least of so many places that wasn't looked at.
+    /// Returns the least of the first `places` places without a `Clear` look.
     pub fn unlooked(&self, places: usize) -> Option<usize>
         requires { places ≤ 64 }
         ensures some { IfSome result (λ place. (place < places)
@@ -48,7 +48,7 @@ impl Record {
     }
 }
 
-/// Blank records for so many slots.
+/// Makes blank records for this many slots.
 pub fn blank_records(alloc: Global, slots: usize) -> Result<Vec<Record>, AllocError>
     ensures { IfOk result (λ records. records.items ≡ replicate slots (new_record 0)) }
 {

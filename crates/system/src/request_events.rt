@@ -1,4 +1,4 @@
-// The events of the operations.
+// The events of requests and operations.
 ghost use Rattle.std.specs.Prelude.{◌≡◌, true, IfOk, OnErr, IfSome, IfNone};
 ghost use Rattle.system.specs.declared.events.Event.TheVariants as events;
 ghost use Rattle.system.specs.declared.answers.Answer.TheVariants as answers;
@@ -15,7 +15,7 @@ use operations::Request;
 use operations::queue::QueueFault;
 use std::alloc::AllocError;
 
-// The refusal for a fault of the queue, None for want of memory.
+// The refusal for a fault of the queue, or `None` for lack of memory.
 fn refusal_of(fault: QueueFault) -> Option<Refusal>
     ensures { result ≡ refusal_of fault }
 {
@@ -28,7 +28,8 @@ fn refusal_of(fault: QueueFault) -> Option<Refusal>
 }
 
 impl Core {
-    /// Why the request wouldn't wait, but for want of memory.
+    /// Returns why the request would be refused, apart from memory: `Spent`, `QueueFull`, `NoTargets`, `BadTargets`, in
+    /// this order.
     pub fn ask_refusal(&self, request: &Request) -> Option<Refusal>
         ensures refused { IfSome result
             (λ refusal. Does (events.Ask request.now) self.now (answers.Refused refusal) self.now) }
@@ -43,7 +44,10 @@ impl Core {
         }
     }
 
-    /// The request waits, with the next number.
+    /// Puts the request into the queue with the next number. The refusals are those of `ask_refusal`.
+    ///
+    /// # Errors
+    /// Memory is refused, and the event would be accepted.
     pub fn ask(&mut self, request: Request) -> Result<Answer, AllocError>
         ensures does { IfOk result (λ answer. Does (events.Ask request) self.old answer self.new) }
         ensures refused { OnErr result (self.new ≡ self.old) }
@@ -65,7 +69,7 @@ impl Core {
         }
     }
 
-    /// The oldest request is open.
+    /// Opens the oldest request. Refusals in this order: `AlreadyOpen`, `QueueEmpty`.
     pub fn open_next(&mut self) -> Answer
         ensures { Does events.Open self.old result self.new }
     {
@@ -86,7 +90,8 @@ impl Core {
         Answer::Opened(number, kind)
     }
 
-    /// The open operation of the number is over; without a number, the oldest one.
+    /// Closes the open operation of this number, or the oldest one. Refusals in this order: `NothingOpen`, `NotOf`,
+    /// `Held`, `NotDone`.
     pub fn close(&mut self, number: Option<u64>) -> Answer
         ensures { Does (events.Close number) self.old result self.new }
     {
@@ -109,7 +114,8 @@ impl Core {
         Answer::Closed(closed)
     }
 
-    /// The poll of a live target is armed, for the oldest operation that is new to it.
+    /// Arms the poll of a thread for the oldest operation that has the thread as a live target and wasn't told to it.
+    /// Refusals in this order: `NothingOpen`, `NotOf`, `AlreadyTold`.
     pub fn tell(&mut self, name: u64) -> Answer
         ensures { Does (events.Tell name) self.old result self.new }
     {

@@ -1,4 +1,4 @@
-// The requests that wait and those that are open, as the system keeps them.
+// The waiting requests and the open operations of a system.
 ghost use Rattle.std.specs.Prelude.{◌≡◌};
 ghost use Rattle.std.specs.List.{list_all, list_any};
 ghost use Rattle.operations.specs.Requests.{is_census, is_target, lists, reply_to};
@@ -12,14 +12,15 @@ use frames::image::Image;
 use operations::Request;
 use operations::queue::Queue;
 
-/// An open operation. A thread that lives is a live target where the request lists it and its name is among the first `names`.
+/// An open operation. A live thread is a live target if it is a target of the request and its name is among the first
+/// `names`.
 #[derive(Drop)]
 pub struct Open {
     pub number: u64,
     pub request: Request,
-    /// How many names were given out when it was opened.
+    /// How many names were given out when the operation was opened.
     pub names: u64,
-    /// Whether it, a census, was operated.
+    /// Whether the operation is a census that was operated.
     pub operated: bool,
 }
 
@@ -30,14 +31,14 @@ impl Open {
         matches!(&self.request, Request::Census)
     }
 
-    /// Whether it asks the thread of the name; a census asks all.
+    /// Returns whether the thread is a target. A census targets all threads.
     pub fn is_target(&self, name: u64) -> bool
         ensures { result ≡ is_target self.now.request name }
     {
         self.request.is_target(name)
     }
 
-    /// Whether it is a handshake of the thread of the name.
+    /// Returns whether the operation is a handshake that lists the thread.
     pub fn lists(&self, name: u64) -> bool
         ensures { result ≡ lists self.now.request name }
     {
@@ -47,7 +48,7 @@ impl Open {
         }
     }
 
-    /// What a thread with this stack replies to it; 0 to a census.
+    /// Returns the reply of a thread with this stack; 0 to a census.
     pub fn reply_on(&self, image: &Image) -> u64
         ensures { result ≡ reply_to self.now.request image.now.frames }
     {
@@ -57,7 +58,7 @@ impl Open {
         }
     }
 
-    /// Whether it may be told to the name, where so many names were given out.
+    /// Returns whether the operation may be told to the thread, after `names` names were given out.
     pub fn may_tell(&self, name: u64, names: u64) -> bool
         ensures { result ≡ may_tell_of names self.now.request name }
     {
@@ -67,7 +68,6 @@ impl Open {
         }
     }
 
-    // Whether a target of it is held at the place.
     fn is_held_for(&self, place: &Option<Thread>) -> bool
         ensures { result ≡ is_held_for self.now place.now }
     {
@@ -77,14 +77,14 @@ impl Open {
         }
     }
 
-    /// Whether a target of it is held.
+    /// Returns whether a target of the operation is held.
     pub fn is_any_held(&self, places: &[Option<Thread>]) -> bool
         ensures { result ≡ list_any (is_held_for self.now) places.now }
     {
         places.iter().any(|place| self.is_held_for(place))
     }
 
-    // Whether no live target is at the place, or one for which it is cleared.
+    // No live target is at the place, or the operation is cleared for it.
     fn is_clear_at(&self, place: &Option<Thread>) -> bool
         ensures { result ≡ is_clear_at self.now place.now }
     {
@@ -100,7 +100,7 @@ impl Open {
         places.iter().all(|place| self.is_clear_at(place))
     }
 
-    /// Whether it, a census, is operated, and it is cleared for each live target.
+    /// Returns whether the operation is over: a census is operated, and the operation is cleared for each live target.
     pub fn is_over(&self, places: &[Option<Thread>]) -> bool
         ensures { result ≡ is_over_at self.now places.now }
     {
@@ -108,7 +108,7 @@ impl Open {
     }
 }
 
-/// How many numbers were given out, the requests that wait, and those that are open.
+/// How many requests were numbered, the waiting requests, and the open operations.
 #[derive(Drop)]
 pub struct Requests {
     pub numbers: u64,
@@ -117,7 +117,6 @@ pub struct Requests {
 }
 
 impl Requests {
-    // Whether the oldest request that waits is a census.
     fn is_census_next(&self) -> bool
         ensures { result ≡ is_census_next self.now.waiting }
     {
@@ -127,7 +126,7 @@ impl Requests {
         }
     }
 
-    /// Whether the oldest request may be opened: up to four handshakes are open, or one census alone.
+    /// Returns whether the oldest request may be opened. At most four handshakes are open, or one census alone.
     pub fn may_open(&self) -> bool
         ensures { result ≡ may_open_now self.now.opens self.now.waiting }
     {
@@ -137,7 +136,7 @@ impl Requests {
             && !(self.is_census_next() && !operations.is_empty())
     }
 
-    /// Whether a census is open.
+    /// Returns whether a census is open.
     pub fn is_safepoint(&self) -> bool
         ensures { result ≡ has_census self.now.opens }
     {

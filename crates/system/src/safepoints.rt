@@ -1,4 +1,4 @@
-// What a census asks of the threads. (HotSpot's runtime overview: at a safepoint stacks don't change)
+// Tests of the threads before a census. (HotSpot's runtime overview: at a safepoint stacks don't change)
 ghost use Rattle.std.specs.Prelude.{◌≡◌};
 ghost use Rattle.std.specs.List.{list_all};
 ghost use Rattle.system.specs.Kept.Censuses.{holds_at, is_held_kept, is_quiet_kept, is_settled_kept, census_refusal};
@@ -51,7 +51,7 @@ fn are_settled(places: &[Option<Thread>]) -> bool
     places.iter().all(|place| is_settled_at(place))
 }
 
-/// Why no census is taken of these threads: one isn't held, one publishes, or one has frames that it hasn't published.
+/// Returns why the threads allow no census: `NotAllHeld`, `Publishing` or `Unpublished`, in this order.
 pub fn census_refusal(places: &[Option<Thread>]) -> Option<Refusal>
     ensures { result ≡ census_refusal places.now }
 {

@@ -1,4 +1,4 @@
-// Whom the open operations may be told, and the telling.
+// Which threads the open operations may be told to, and the arming of a thread's poll.
 ghost use Rattle.std.specs.Prelude.{◌≡◌, ◌<◌, IfSome, IfNone, false, Some, slice_get, slice_set, length};
 ghost use Rattle.std.specs.List.{list_any};
 ghost use Rattle.system.specs.declared.thread.Thread.{Thread as TheThread};
@@ -9,7 +9,7 @@ use crate::answers::Answer;
 use crate::requests::Open;
 use crate::thread::Thread;
 
-/// Whether one of the operations may be told to the name, where so many names were given out.
+/// Returns whether one of the operations may be told to the thread, after `names` names were given out.
 pub fn may_tell_any(operations: &[Open], name: u64, names: u64) -> bool
     ensures { result ≡ may_tell_any names operations.now name }
 {
@@ -25,8 +25,8 @@ fn is_named_at(name: u64, place: &Option<Thread>) -> bool
     }
 }
 
-/// A place of the thread of this name. While no thread has left, a name stands one place before its number: there it is looked for
-/// first.
+/// Returns the place of the thread of this name. Before the first exit a thread's place is its name minus 1, so this
+/// place is tried first.
 pub fn place_of(places: &[Option<Thread>], name: u64) -> Option<usize>
     ensures some { IfSome result (λ place. (kept : TheThread)
         × (slice_get places.now place ≡ Some (Some kept)) × (kept.name ≡ name)) }
@@ -46,7 +46,7 @@ pub fn place_of(places: &[Option<Thread>], name: u64) -> Option<usize>
     None
 }
 
-/// Tells the thread at the place the least operation that has it as a live target and is new to it, where so many names were given out.
+/// Arms the poll of the thread at the place, after `names` names were given out. `Thread::tell` chooses the operation.
 pub fn tell_at(
     places: &mut Vec<Option<Thread>>,
     place: usize,

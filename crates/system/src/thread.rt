@@ -1,4 +1,4 @@
-// A thread as the system keeps it, and the acts that change it alone.
+// A thread of the system, and the acts that change only the thread.
 ghost use Rattle.std.specs.Prelude.{◌≡◌, ◌≢◌, ◌≤◌, ℕ, List, [], Option, Some, None, Ok, IfOk, true, false, ◌==◌, find, option_copied};
 ghost use Rattle.std.specs.List.{list_any};
 ghost use Rattle.operations.specs.Requests.{is_target, lists};
@@ -26,8 +26,8 @@ use thread_state::{
     Move, State, is_in_java, is_in_vm, is_safe, is_serving, may_cross, may_publish,
 };
 
-/// The operations that were last told to a thread, done for it, and cleared for it; 0 for none. They are told, done and cleared in rising
-/// order, none of which it is a live target is left out: so the three numbers stand for all.
+/// The operations last told to a thread, last done for it and last cleared for it; 0 for none. Each number rises and
+/// skips no operation that has the thread as a live target, so these three numbers replace sets of operations.
 #[derive(Clone, Copy, Debug, PartialEq, Eq, Drop)]
 pub struct Marks {
     pub told: u64,
@@ -35,14 +35,14 @@ pub struct Marks {
     pub cleared: u64,
 }
 
-/// The moments of a thread's last Begin, and of the Begin of its last ended publication; 0 for none.
+/// The moments of the last Begin, and of the Begin of the last ended publication; 0 for none.
 #[derive(Clone, Copy, Debug, PartialEq, Eq, Drop)]
 pub struct Moments {
     pub begun: u64,
     pub stored: u64,
 }
 
-/// A thread: what the definitions have of it, with its stack as an image.
+/// A thread of the definitions, with an image for its stack.
 #[derive(Drop)]
 pub struct Thread {
     pub name: u64,
@@ -55,7 +55,7 @@ pub struct Thread {
 }
 
 impl Thread {
-    /// A new thread: its stack is empty, and it has published nothing.
+    /// Makes a new thread with an empty stack and no publication.
     pub fn new(alloc: Global, name: u64) -> Result<Thread, AllocError>
         ensures { IfOk result (λ thread. IsNew thread name) }
     {
@@ -77,7 +77,7 @@ impl Thread {
         })
     }
 
-    /// Does a plain act, in a system with these codes, these open operations and this moment.
+    /// Does a plain act with these codes, open operations and moment.
     pub fn act(
         &mut self,
         act: Act,
@@ -117,7 +117,7 @@ impl Thread {
         }
     }
 
-    /// The next change of the open publication.
+    /// Does the next change of the open publication. Refused with `NotBegun`.
     pub fn change(&mut self) -> Result<Option<Change>, Refusal>
         ensures { (w : World) (t : _) → SameThread self.old t
             → DidNext (acts.here w TheActs.Change t) self.old self.new t result }
@@ -128,7 +128,8 @@ impl Thread {
         Ok(self.image.next_change())
     }
 
-    /// Whether the thread may leave its place: the refusal, where it may not.
+    /// Returns why the thread may not exit. The common tests come first, then `StackNotEmpty`, `Unpublished`,
+    /// `OperationPending`.
     pub fn exit_refusal(&self) -> Option<Refusal>
         ensures { (w : World) (t : _) → SameThread self.now t
             → poll_of w.requests t.name ≡ poll_by self.now.marks
@@ -149,7 +150,7 @@ impl Thread {
         None
     }
 
-    // A call: of code in use the method's own frame is pushed, all other code sends it away. (nmethod)
+    // A call through code in use pushes the method's frame. Other code redirects the call. (nmethod)
     fn enter(
         &mut self,
         method: u64,
@@ -179,7 +180,7 @@ impl Thread {
         }
     }
 
-    // Whether the thread may push a frame: the refusal, where it may not.
+    // Why the thread may not push a frame.
     fn frame_refusal(&self) -> Option<Refusal>
         ensures { result ≡ frame_refusal self.now }
     {
@@ -204,7 +205,7 @@ impl Thread {
         Ok(Answer::Entered)
     }
 
-    // The first of the tests that all acts have in common that fails.
+    // The first common test of all acts that fails.
     fn common_refusal(&self, act: Act) -> Option<Refusal>
         ensures { result ≡ common_refusal self.now act }
     {
@@ -217,7 +218,7 @@ impl Thread {
         None
     }
 
-    // The operation that a poll stops for. (JEP 312: the poll is per thread)
+    // The operation for which a poll stops. (JEP 312: the poll is per thread)
     fn poll(&self) -> Option<u64>
         ensures { result ≡ poll_by self.now.marks }
     {
@@ -228,7 +229,6 @@ impl Thread {
         }
     }
 
-    // A move without a poll.
     fn moves(&mut self, step: Move) -> Result<Answer, Refusal>
         ensures { (t : _) → SameThread self.old t
             → DidAlone (acts.move_by t step) self.old self.new t result }
@@ -242,7 +242,7 @@ impl Thread {
         }
     }
 
-    // A poll: the thread goes on, or stops for the operation.
+    // A poll: the thread goes on, or stops for an operation.
     fn crosses(&mut self) -> Result<Answer, Refusal>
         ensures { (requests : Asked) (t : _) → SameThread self.old t
             → poll_of requests t.name ≡ poll_by self.old.marks
@@ -258,7 +258,6 @@ impl Thread {
         }
     }
 
-    // A held thread doesn't wake.
     fn wake(&mut self) -> Result<Answer, Refusal>
         ensures { (w : World) (t : _) → SameThread self.old t
             → DidAlone (acts.does w TheActs.Wake t) self.old self.new t result }
@@ -280,15 +279,16 @@ impl Thread {
         Ok(Answer::Done)
     }
 
-    /// Whether the thread is a live target of the operation: it started before it was opened.
+    /// Returns whether the thread is a live target of the operation: a target that started before the operation was
+    /// opened.
     pub fn is_live_for(&self, open: &Open) -> bool
         ensures { result ≡ is_live_for open.now self.now }
     {
         self.name <= open.names && open.is_target(self.name)
     }
 
-    // The operation was told to the thread: numbers are told to it in rising order, each of which it is a live target. For the number
-    // told last no target is looked up.
+    // The operation was told to the thread. Numbers are told in rising order and skip no operation that has the thread
+    // as a live target. The number last told is of such an operation and needs no lookup.
     fn was_told(&self, open: &Open) -> bool
         ensures { result ≡ was_told open.now self.now }
     {
@@ -341,14 +341,15 @@ impl Thread {
         operations.iter().any(|open| self.is_uncleared(open))
     }
 
-    // An open operation lists the thread: a handshake that was told to it does, so no list is searched for one that is found undone.
+    // An open handshake lists the thread. An undone handshake was told to the thread and lists it, so then no list is
+    // searched.
     fn is_asked(&self, open: &Open, operations: &[Open]) -> bool
         ensures { result ≡ is_asked self.now open.now operations.now }
     {
         !open.is_census() || self.is_listed(operations)
     }
 
-    // The least told one that isn't done, and the least that isn't cleared.
+    // The least operation told to the thread and not done.
     fn next_undone<'a>(&self, operations: &'a [Open]) -> Option<&'a Open>
         ensures { option_copied result ≡ find (undone_by self.now) operations.now }
     {
@@ -361,8 +362,9 @@ impl Thread {
         operations.iter().find(|open| self.is_uncleared(open))
     }
 
-    /// Tells the least operation that has the thread as a live target and wasn't told to it, where so many names were given out. Whether
-    /// the name may be told anything is looked up only where there is none.
+    /// Arms the poll for the least operation that has the thread as a live target and wasn't told to it, after `names`
+    /// names were given out. Without such an operation: `NotOf`, `AlreadyTold`, or `Gone` if the thread is a live
+    /// target of none.
     pub fn tell(&mut self, operations: &[Open], names: u64) -> Answer
         ensures answer { result ≡ answer_told names operations.now self.old }
         ensures told { self.new ≡ kept_told operations.now self.old }
@@ -398,7 +400,7 @@ impl Thread {
         operations.iter().find(|open| self.is_untold(open))
     }
 
-    // A census is open that was told to the thread and isn't operated.
+    // An open census was told to the thread and isn't operated.
     fn awaits_census(&self, operations: &[Open]) -> bool
         ensures { result ≡ list_any (awaited_by self.now) operations.now }
     {
@@ -418,7 +420,6 @@ impl Thread {
         self.moves(Move::Take)
     }
 
-    // Opens a publication at a moment.
     fn begin(&mut self, now: u64) -> Result<Answer, Refusal>
         requires { self.old.image.publishing ≡ false }
         ensures { (w : World) (t : _) → SameThread self.old t
@@ -456,7 +457,6 @@ impl Thread {
         }
     }
 
-    // Pops the top frame, and polls.
     fn leave(&mut self) -> Result<Answer, Refusal>
         requires closed { self.old.image.publishing ≡ false }
         requires java { is_in_java self.old.state ≡ true }
@@ -471,7 +471,7 @@ impl Thread {
         self.crosses()
     }
 
-    // The callback of a handshake, once for each target, on a published stack: of the least one that waits for it. (JEP 312)
+    // Runs the least handshake that is told and not done, on a published stack. Each target runs it once. (JEP 312)
     fn finish(&mut self, operations: &[Open]) -> Result<Answer, Refusal>
         ensures { (w : World) (now : ℕ) (t : _) → IsHere operations.now self.old w.requests t
             → Did (record {
@@ -497,7 +497,7 @@ impl Thread {
         Ok(Answer::Reply(open.reply_on(&self.image)))
     }
 
-    // The thread may go on once its own work is done: the least one that waits for it is cleared. (JEP 312)
+    // Clears the least operation that is told and not cleared. The thread waits for no other thread. (JEP 312)
     fn clear(&mut self, operations: &[Open]) -> Result<Answer, Refusal>
         ensures { (w : World) (now : ℕ) (t : _) → IsHere operations.now self.old w.requests t
             → Did (record {
@@ -520,7 +520,7 @@ impl Thread {
         Ok(Answer::Done)
     }
 
-    // The coordinator keeps a thread blocked in a safe state. (JEP 312)
+    // The coordinator holds a thread in a safe state. (JEP 312)
     fn hold(&mut self, operations: &[Open]) -> Result<Answer, Refusal>
         ensures { (w : World) (t : _) → IsHere operations.now self.old w.requests t
             → DidAlone (acts.does w TheActs.Hold t) self.old self.new t result }
@@ -543,7 +543,8 @@ impl Thread {
     }
 }
 
-// Why no operation waits for a thread: none is open, none is of it, none was told to it, or each that was told is served.
+// Why no operation is pending for a thread: none is open, the thread is a target of none, none was told to it, or all
+// told to it are served.
 fn idle_refusal(empty: bool, of: bool, told: bool) -> Refusal
     ensures { result ≡ idle_refusal empty of told }
 {
@@ -558,7 +559,7 @@ fn idle_refusal(empty: bool, of: bool, told: bool) -> Refusal
     }
 }
 
-// What a poll answers.
+// The answer to a poll.
 fn go_or_stop(poll: Option<u64>) -> Answer
     ensures { result ≡ acts.go_or_stop poll }
 {
@@ -568,7 +569,7 @@ fn go_or_stop(poll: Option<u64>) -> Answer
     }
 }
 
-// The acts that an open publication allows.
+// The acts during an open publication.
 fn may_while_publishing(act: Act) -> bool
     ensures { result ≡ acts.may_while_publishing act }
 {

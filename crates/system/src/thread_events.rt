@@ -1,4 +1,4 @@
-// The events of one thread, and the start of one.
+// The acts of one thread, and its start.
 ghost use Rattle.std.specs.Prelude.{◌≡◌, ◌≤◌, true, IfOk, OnErr};
 ghost use Rattle.system.specs.declared.events.Event.TheVariants as events;
 ghost use Rattle.system.specs.declared.events.Act.TheVariants as acts;
@@ -15,7 +15,7 @@ use frames::LAST;
 use std::alloc::{AllocError, Global};
 
 impl Core {
-    /// A plain act of the thread at the place.
+    /// Does a plain act of the thread at the place.
     pub fn act(&mut self, place: usize, act: Act) -> Answer
         requires plain { is_plain act ≡ true }
         requires few { self.old.table.methods ≤ 256 }
@@ -31,7 +31,7 @@ impl Core {
         )
     }
 
-    /// The thread at the place leaves it.
+    /// Lets the thread at the place exit. The refusals are those of `exit_at`.
     #[inline(always)]
     pub fn exit(&mut self, place: usize) -> Answer
         ensures { Does (events.At place acts.Exit) self.old result self.new }
@@ -39,7 +39,11 @@ impl Core {
         exit_at(&mut self.places, place)
     }
 
-    /// The frames of the thread at the place.
+    /// Answers the frames of the thread at the place. Refusals in this order: `NoSuchPlace`, `Illegal` for a vacant
+    /// place.
+    ///
+    /// # Errors
+    /// Memory is refused.
     #[inline(always)]
     pub fn stack(&self, alloc: Global, place: usize) -> Result<Answer, AllocError>
         ensures does { IfOk result
@@ -49,7 +53,10 @@ impl Core {
         stack_at(alloc, &self.places, place)
     }
 
-    /// A thread starts in the least vacant place.
+    /// Starts a thread in the least vacant place. Refusals in this order: `SafepointOpen`, `PlacesFull`, `Spent`.
+    ///
+    /// # Errors
+    /// Memory is refused, and the event would be accepted.
     pub fn start(&mut self, alloc: Global) -> Result<Answer, AllocError>
         ensures does { IfOk result (λ answer. Does events.Start self.old answer self.new) }
         ensures refused { OnErr result (self.new ≡ self.old) }

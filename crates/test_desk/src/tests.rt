@@ -225,8 +225,8 @@ start 0 = 1; handshake 0 = 1; handshake 0 = 2; handshake 0 = 3; handshake 0 = 4;
 census 0 = 6; open 0 = 1; open 0 = 2; open 0 = 3; open 0 = 4; open 0 = 0
 answer 1 = 1; answer 2 = 1; close 5 = 0; close 2 = 2; close 3 = 0; close 0 = 1
 open 0 = 5; open 0 = 0
-exit 1 = 1; close 5 = 5; open 0 = 0; close 4 = 4; close 0 = 3; open 0 = 6
-start 0 = 0; operate 0 = 6; close 0 = 6; start 0 = 2";
+exit 1 = 1; close 5 = 5; open 0 = 0; close 4 = 4; close 0 = 3
+open 0 = 6; start 0 = 0; operate 0 = 6; close 0 = 6; start 0 = 2";
 
 #[test]
 fn four_handshakes_are_answered_in_order_and_closed_in_any(rt: HostRuntime) -> Result<(), Fail> {
@@ -235,8 +235,8 @@ fn four_handshakes_are_answered_in_order_and_closed_in_any(rt: HostRuntime) -> R
 
 // A code is installed and invalidated, and reclaimed with a census.
 const RECLAIMED: &str = "\
-install 0 = 1; weigh 1 = 0; invalidate 1 = 1; weigh 1 = 0; reclaim 1 = 1; reclaim 1 = 0
-look 1 = 1; weigh 1 = 1; free 1 = 1; free 1 = 0; install 0 = 2";
+install 0 = 1; weigh 1 = 0; invalidate 1 = 1; weigh 1 = 0
+reclaim 1 = 1; reclaim 1 = 0; look 1 = 1; weigh 1 = 1; free 1 = 1; free 1 = 0; install 0 = 2";
 
 #[test]
 fn a_code_is_reclaimed(rt: HostRuntime) -> Result<(), Fail> {
@@ -245,8 +245,8 @@ fn a_code_is_reclaimed(rt: HostRuntime) -> Result<(), Fail> {
 
 // A code is installed over another, and no slot is free until the old one is reclaimed. Then the next code is installed over the new one.
 const OVER: &str = "\
-install 0 = 1; install 0 = 2; install 0 = 0; invalidate 1 = 0; reclaim 1 = 1; look 1 = 1
-weigh 1 = 1; free 1 = 1; install 0 = 3";
+install 0 = 1; install 0 = 2; install 0 = 0; invalidate 1 = 0
+reclaim 1 = 1; look 1 = 1; weigh 1 = 1; free 1 = 1; install 0 = 3";
 
 #[test]
 fn a_code_is_installed_over_another(rt: HostRuntime) -> Result<(), Fail> {

@@ -1,6 +1,7 @@
 //! Texts of acts with their answers, and the runner that plays them.
 mod acts;
 mod advancing;
+mod all_targets;
 mod censuses;
 mod codes;
 mod counted;

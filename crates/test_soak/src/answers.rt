@@ -33,7 +33,14 @@ pub enum Held {
 }
 
 impl Held {
-    pub fn of_refused(fault: HoldFault) -> Held {
+    pub fn of<T: Drop>(held: Result<T, HoldFault>) -> Held {
+        match held {
+            Ok(_receipt) => Held::Now,
+            Err(fault) => Held::of_refused(fault),
+        }
+    }
+
+    fn of_refused(fault: HoldFault) -> Held {
         match fault {
             HoldFault::Held => Held::Already,
             HoldFault::Vacant | HoldFault::NotSafe => Held::Not,

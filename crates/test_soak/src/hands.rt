@@ -22,6 +22,14 @@ pub struct Hands<'c, 'x, 'a, N: Name, J: HandshakeOp, R: Wait> {
     pub stream: Option<Stream<'a>>,
 }
 
+// The number of a request that was submitted or opened; None if that was refused.
+fn number_of<T: Drop, F: Drop>(answer: Result<(u64, T), F>) -> Option<u64> {
+    match answer {
+        Ok((op, _receipt)) => Some(op),
+        Err(_) => None,
+    }
+}
+
 impl<'c, 'x, 'a, N: Name, J: HandshakeOp, R: Wait> Hands<'c, 'x, 'a, N, J, R> {
     /// Submits a request. Answers its number; None if it is refused.
     pub fn submit(&mut self, request: Request, jobs: Vec<J>) -> Option<u64> {
@@ -29,10 +37,7 @@ impl<'c, 'x, 'a, N: Name, J: HandshakeOp, R: Wait> Hands<'c, 'x, 'a, N, J, R> {
             Some(stream) => stream.submit(self.shared, self.rt, request, jobs),
             None => self.shared.submit(self.rt, request, jobs),
         };
-        match asked {
-            Ok((op, _receipt)) => Some(op),
-            Err(_) => None,
-        }
+        number_of(asked)
     }
 
     /// Installs a code. Answers its serial.
@@ -53,10 +58,7 @@ impl<'c, 'x, 'a, N: Name, J: HandshakeOp, R: Wait> Hands<'c, 'x, 'a, N, J, R> {
             Some(stream) => stream.invalidate(self.shared, self.rt, serial),
             None => self.shared.invalidate(self.rt, serial),
         };
-        match invalidated {
-            Ok(_receipt) => None,
-            Err(fault) => Some(fault),
-        }
+        invalidated.err()
     }
 
     pub fn reclaim(&mut self, serial: u64, jobs: Vec<J>) -> Came {
@@ -97,10 +99,7 @@ impl<'c, 'x, 'a, N: Name, J: HandshakeOp, R: Wait> Hands<'c, 'x, 'a, N, J, R> {
             Some(stream) => stream.open(by, self.rt),
             None => by.open(self.rt),
         };
-        match opened {
-            Ok((op, _receipt)) => Some(op),
-            Err(_) => None,
-        }
+        number_of(opened)
     }
 
     /// Arms the poll of the thread with this name. Answers whether the thread was armed or gone, and not refused.
@@ -118,10 +117,7 @@ impl<'c, 'x, 'a, N: Name, J: HandshakeOp, R: Wait> Hands<'c, 'x, 'a, N, J, R> {
             Some(stream) => stream.hold(by, self.rt, place),
             None => by.hold(self.rt, place),
         };
-        match held {
-            Ok(_receipt) => Held::Now,
-            Err(fault) => Held::of_refused(fault),
-        }
+        Held::of(held)
     }
 
     /// Serves a held thread. Answers why it isn't served, if it is refused.
@@ -131,10 +127,7 @@ impl<'c, 'x, 'a, N: Name, J: HandshakeOp, R: Wait> Hands<'c, 'x, 'a, N, J, R> {
             Some(stream) => stream.serve(by, self.rt, place),
             None => by.serve(self.rt, place),
         };
-        match served {
-            Ok(_receipt) => None,
-            Err(fault) => Some(fault),
-        }
+        served.err()
     }
 
     /// Operates the open census. Answers its counts.

@@ -1,4 +1,4 @@
--- The text of each state: its name, and the way back in round brackets where it has one.
+-- The text of each state: its name, and the state of return in parentheses if it has one.
 use Rattle.std.specs.Prelude.{ℕ, List, ◌++◌, codes}
 use Rattle.thread_state.specs.declared.Back.{Back}
 use Rattle.thread_state.specs.declared.Back.TheVariants.{Java, Vm}
@@ -9,7 +9,7 @@ abbrev pub back_text : Back → List ℕ
 back_text Java = codes "Java"
 back_text Vm = codes "Vm"
 
--- A name, and a way back in round brackets.
+-- A name and a state of return in parentheses.
 abbrev pub with_back : List ℕ → Back → List ℕ
 with_back name back = name ++ codes "(" ++ back_text back ++ codes ")"
 

@@ -1,4 +1,4 @@
--- The states of a thread and the moves between them. (HotSpot's thread states; AtPoll and Serving are this project's)
+-- The states of a thread and the moves between them. (HotSpot's thread states; AtPoll and Serving are our own)
 use Rattle.std.specs.Prelude.{Bool, true, false, Option, Some, None}
 use Rattle.thread_state.specs.declared.Back.{Back}
 use Rattle.thread_state.specs.declared.Back.TheVariants.{Java, Vm}
@@ -7,8 +7,8 @@ use Rattle.thread_state.specs.declared.State.TheVariants.{Vacant, New, InJava, I
 use Rattle.thread_state.specs.declared.Move.{Move}
 use Rattle.thread_state.specs.declared.Move.TheVariants as move
 
--- Where a move leads. Every other pair is illegal. (HotSpot's runtime overview: a thread in native or blocked wakes into a
--- transition state)
+-- The state after a move. Every other pair is illegal. (HotSpot's runtime overview: a thread in native or blocked wakes
+-- into a transition state)
 abbrev pub step : State → Move → Option State
 step Vacant move.Start = Some New
 step New move.Wake = Some NewTrans
@@ -23,18 +23,18 @@ step InJava move.Exit = Some Vacant
 step InVm move.Exit = Some Vacant
 step state move = None
 
--- The state that a way back names.
+-- The state of a return.
 abbrev pub state_of : Back → State
 state_of Java = InJava
 state_of Vm = InVm
 
--- Where a polling thread goes on, or where it stops if it is told to.
+-- The state after a poll: the next state, or a stop if the poll is armed.
 abbrev pub either : Bool → State → Back → Option State
 either true state back = Some state
 either false state back = Some (AtPoll back)
 
--- Where a poll leads: on, or to a stop. Every other state doesn't poll. (HotSpot's runtime overview: polls at returns, in loops
--- and at transitions; a thread that comes back from native stops there if it is armed)
+-- The state after a poll in each state. In every other state no thread polls. (HotSpot's runtime overview: polls at
+-- returns, in loops and at transitions; a thread that comes back from native stops there if it is armed)
 abbrev pub cross : State → Bool → Option State
 cross InJava go = either go InJava Java
 cross InVm go = either go InJava Java
@@ -44,8 +44,8 @@ cross BlockedTrans go = either go InVm Vm
 cross (Serving back) go = either go (state_of back) back
 cross state go = None
 
--- A thread in a safe state does nothing to its stack. (JEP 312: a safepoint-safe state. HotSpot's runtime
--- overview: native and blocked are safe)
+-- In a safe state the thread's stack can't change. (JEP 312: a safepoint-safe state. HotSpot's runtime overview: native
+-- and blocked are safe)
 abbrev pub is_safe : State → Bool
 is_safe New = true
 is_safe (InNative back) = true
@@ -53,7 +53,7 @@ is_safe Blocked = true
 is_safe (AtPoll back) = true
 is_safe state = false
 
--- A thread owns itself in Java, in the VM and while it serves; it may publish there, and where it is new.
+-- A thread may publish its stack while it is new, runs or serves.
 abbrev pub may_publish : State → Bool
 may_publish New = true
 may_publish InJava = true
@@ -61,7 +61,7 @@ may_publish InVm = true
 may_publish (Serving back) = true
 may_publish state = false
 
--- The thread is between two states, or serves, and polls to go on.
+-- The thread is between two states or serves, and continues by a poll.
 abbrev pub may_cross : State → Bool
 may_cross NewTrans = true
 may_cross (NativeTrans back) = true
@@ -79,7 +79,7 @@ abbrev pub is_in_vm : State → Bool
 is_in_vm InVm = true
 is_in_vm state = false
 
--- The thread has stopped at a poll and serves itself.
+-- The thread is stopped at a poll and serves itself.
 abbrev pub is_serving : State → Bool
 is_serving (Serving back) = true
 is_serving state = false

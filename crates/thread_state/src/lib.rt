@@ -1,5 +1,5 @@
 //! The states of a thread, the moves between them, and the rule of the poll words.
-//! The core and both kinds of running threads go by its rules: `system`, `poll`, `desk` and all above them.
+//! `system`, `poll`, `desk` and all crates above them use these rules.
 //! Read `src/moves.rt` first, then `specs/States.antt`.
 #![tactic(auto)]
 
@@ -9,55 +9,55 @@ mod text;
 
 pub use moves::{cross, is_in_java, is_in_vm, is_safe, is_serving, may_cross, may_publish, step};
 
-/// Where a thread goes back to.
+/// The state to which a thread returns from native code or from a stop.
 #[derive(Clone, Copy, Debug, PartialEq, Eq, Drop)]
 pub enum Back {
     Java,
     Vm,
 }
 
-/// A thread's state, or that of a place without a thread.
+/// A thread's state, or the state of a place without a thread.
 #[derive(Clone, Copy, Debug, PartialEq, Eq, Drop)]
 pub enum State {
     /// The place has no thread.
     Vacant,
-    /// Started, and not yet in Java.
+    /// The thread is started, and hasn't entered Java yet.
     New,
     InJava,
     InVm,
-    /// In native code. It keeps out of Java and of the VM until it wakes and polls.
+    /// In native code. The thread enters neither Java nor the VM before it wakes and polls.
     InNative(Back),
-    /// Waits in the VM.
+    /// Waiting in the VM.
     Blocked,
-    /// On the way from `New` into Java.
+    /// Between `New` and Java.
     NewTrans,
-    /// On the way back from native code.
+    /// Between native code and the state of return.
     NativeTrans(Back),
-    /// On the way back into the VM.
+    /// Between `Blocked` and the VM.
     BlockedTrans,
     /// Stopped at a poll.
     AtPoll(Back),
-    /// Stopped at a poll, and runs its own operations.
+    /// Stopped at a poll, and running its own operations.
     Serving(Back),
 }
 
-/// What a thread does without a poll.
+/// A change of state without a poll.
 #[derive(Clone, Copy, Debug, PartialEq, Eq, Drop)]
 pub enum Move {
-    /// A thread is started in a vacant place.
+    /// A thread starts in a vacant place.
     Start,
-    /// A thread leaves a state in which it waited or was out of reach.
+    /// A new thread, or a thread in native code or blocked, enters the transition state, from which it polls.
     Wake,
     ToVm,
     ToNative,
     Block,
-    /// A thread that stopped at a poll takes its operations in hand.
+    /// A thread that is stopped at a poll begins to serve.
     Take,
-    /// The thread ends, and its place is vacant.
+    /// The thread ends and its place becomes vacant.
     Exit,
 }
 
-/// A state in which what was asked for isn't lawful.
+/// The state in which the move or poll is illegal.
 #[derive(Clone, Copy, Debug, PartialEq, Eq, Drop)]
 pub struct Illegal {
     pub state: State,

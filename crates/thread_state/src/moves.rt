@@ -1,11 +1,14 @@
-//! Where moves and polls lead from each state, and what a thread may do in it.
+//! The state after each move and poll, and what each state permits.
 ghost use Rattle.std.specs.Prelude.{◌≡◌, IfErr};
 ghost use Rattle.std.specs.Result.{result_ok};
 ghost use Rattle.thread_state.specs.States as table;
 
 use crate::{Back, Illegal, Move, State};
 
-/// Where a move leads. A pair that the table doesn't have is illegal, and the error names the state.
+/// Returns the state after a move.
+///
+/// # Errors
+/// `Illegal` with the given state if the table has no such move.
 pub fn step(state: State, movement: Move) -> Result<State, Illegal>
     ensures accepted { result_ok result ≡ table.step state movement }
     ensures refused { IfErr result (λ e. e.state ≡ state) }
@@ -26,8 +29,10 @@ pub fn step(state: State, movement: Move) -> Result<State, Illegal>
     Ok(to)
 }
 
-/// Where a poll leads: on, where `go` is true, and otherwise to a stop. A state that doesn't poll is illegal, and the error
-/// names it.
+/// Returns the state after a poll: the next state if `go`, otherwise `AtPoll`.
+///
+/// # Errors
+/// `Illegal` with the given state if no thread polls in it.
 pub fn cross(state: State, go: bool) -> Result<State, Illegal>
     ensures accepted { result_ok result ≡ table.cross state go }
     ensures refused { IfErr result (λ e. e.state ≡ state) }
@@ -41,7 +46,6 @@ pub fn cross(state: State, go: bool) -> Result<State, Illegal>
     Ok(if go { onward } else { State::AtPoll(back) })
 }
 
-// The state that a way back names.
 fn state_of(back: Back) -> State
     ensures { result ≡ table.state_of back }
 {
@@ -51,7 +55,7 @@ fn state_of(back: Back) -> State
     }
 }
 
-/// Whether a thread in this state does nothing to its stack until it wakes or takes its operations.
+/// Returns whether the thread's stack can't change in this state, before the thread wakes or begins to serve.
 pub fn is_safe(state: State) -> bool
     ensures { result ≡ table.is_safe state }
 {
@@ -61,7 +65,7 @@ pub fn is_safe(state: State) -> bool
     )
 }
 
-/// Whether a thread that nobody holds may begin a publication of its stack.
+/// Returns whether a thread may begin a publication of its stack, if nobody holds the thread.
 pub fn may_publish(state: State) -> bool
     ensures { result ≡ table.may_publish state }
 {
@@ -71,7 +75,7 @@ pub fn may_publish(state: State) -> bool
     )
 }
 
-/// Whether a thread polls to leave this state, with nothing else done at that poll.
+/// Returns whether a thread leaves this state by a poll and nothing else.
 pub fn may_cross(state: State) -> bool
     ensures { result ≡ table.may_cross state }
 {
@@ -81,21 +85,21 @@ pub fn may_cross(state: State) -> bool
     )
 }
 
-/// Whether the thread runs Java code.
+/// Returns whether the thread runs Java code.
 pub fn is_in_java(state: State) -> bool
     ensures { result ≡ table.is_in_java state }
 {
     matches!(state, State::InJava)
 }
 
-/// Whether the thread runs in the VM.
+/// Returns whether the thread runs in the VM.
 pub fn is_in_vm(state: State) -> bool
     ensures { result ≡ table.is_in_vm state }
 {
     matches!(state, State::InVm)
 }
 
-/// Whether the thread has stopped at a poll and serves itself.
+/// Returns whether the thread is stopped at a poll and serves itself.
 pub fn is_serving(state: State) -> bool
     ensures { result ≡ table.is_serving state }
 {

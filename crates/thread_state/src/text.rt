@@ -1,4 +1,4 @@
-//! How states are written.
+//! The text of states.
 ghost use Rattle.std.specs.Prelude.{Some, ◌++◌, codes};
 ghost use Rattle.thread_state.specs.StateText.{back_text, state_text};
 

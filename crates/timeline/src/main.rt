@@ -4,6 +4,7 @@
 #![tactic(auto)]
 
 use replay::device::{FromReader, IntoWriter};
+use replay::stream::ReplayFault;
 use run_picture::{Fault, draw_run, read_words};
 use std::env;
 use std::io::ErrorKind;
@@ -35,11 +36,13 @@ fn draw(rt: &HostRuntime) -> Result<(), Fault> {
 fn words(rt: &HostRuntime) -> Result<Vec<String>, Fault> {
     let words = match env::args(rt) {
         Ok(words) => words,
-        Err(error) if error.kind() == ErrorKind::OutOfMemory => return Err(Fault::NoMemory),
+        Err(error) if error.kind() == ErrorKind::OutOfMemory => {
+            return Err(Fault::Failed(ReplayFault::NoMemory));
+        }
         Err(_) => return Err(Fault::BadWords),
     };
     match words.skip(1).collect(rt.alloc()) {
         Ok(words) => Ok(words),
-        Err(_) => Err(Fault::NoMemory),
+        Err(_) => Err(Fault::Failed(ReplayFault::NoMemory)),
     }
 }

@@ -89,14 +89,15 @@ impl<N: Name> Summary<N> {
     }
 }
 
-impl fmt::Display for Ending {
-    ghost output = { λ ending. Some (ending_text ending) };
-
-    fn fmt<W: fmt::Write>(&self, f: &mut fmt::Formatter<W>) -> fmt::Result {
+impl Ending {
+    /// The word for this ending in the line of its thread.
+    pub fn word(self) -> &'static str
+        ensures { result.now ≡ ending_text self }
+    {
         match self {
-            Ending::Finished => write!(f, "finished"),
-            Ending::Overflow => write!(f, "overflow"),
-            Ending::OutOfFuel => write!(f, "fuel"),
+            Ending::Finished => "finished",
+            Ending::Overflow => "overflow",
+            Ending::OutOfFuel => "fuel",
         }
     }
 }
@@ -105,7 +106,8 @@ impl fmt::Display for Line {
     ghost output = { λ line. Some (line_text line) };
 
     fn fmt<W: fmt::Write>(&self, f: &mut fmt::Formatter<W>) -> fmt::Result {
-        write!(f, "thread {} {} {}\n", self.name, self.ending, self.made)
+        let ending = self.ending.word();
+        write!(f, "thread {} {ending} {}\n", self.name, self.made)
     }
 }
 

@@ -33,7 +33,7 @@ impl<'a, N: Name, J: HandshakeOp> Side<'a, N, J> {
     fn invalidate<R: Wait>(&self, rt: &R, serial: u64) -> Said {
         match self.tables.shared().invalidate(rt, serial) {
             Ok(_receipt) => Said::Done,
-            Err(fault) => of_invalidate(fault),
+            Err(fault) => Said::Refused(of_invalidate(fault)),
         }
     }
 
@@ -53,7 +53,7 @@ impl<'a, N: Name, J: HandshakeOp> Side<'a, N, J> {
             Ok((Weighed::NotLooked(place), _, _)) => Said::NotLooked(place),
             Ok((Weighed::Used(count), _, _)) => Said::Used(count),
             Ok((Weighed::Clear, _, _)) => Said::Retired,
-            Err(fault) => of_retire(fault),
+            Err(fault) => Said::Refused(of_retire(fault)),
         }
     }
 
@@ -62,7 +62,7 @@ impl<'a, N: Name, J: HandshakeOp> Side<'a, N, J> {
         let mut desk = shared.desk().lock(rt);
         match desk.free(shared.board(), serial) {
             Ok(_receipt) => Said::Done,
-            Err(fault) => of_free(fault),
+            Err(fault) => Said::Refused(of_free(fault)),
         }
     }
 

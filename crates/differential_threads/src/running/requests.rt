@@ -14,6 +14,7 @@ use operations::job::HandshakeOp;
 use operations::{Ask, Request, Targets};
 use std::alloc::AllocError;
 use std::sync::Wait;
+use system::answers::Refusal;
 
 // The index of a job for the name that has this query.
 fn job_at<J: HandshakeOp>(jobs: &[J], name: u64, ask: Ask) -> Option<usize>
@@ -25,6 +26,14 @@ fn job_at<J: HandshakeOp>(jobs: &[J], name: u64, ask: Ask) -> Option<usize>
         }
     }
     None
+}
+
+// The answer to a step that is done or refused.
+fn of_done<T: Drop>(answer: Result<T, Refusal>) -> Said {
+    match answer {
+        Ok(_receipt) => Said::Done,
+        Err(refusal) => Said::Refused(refusal),
+    }
 }
 
 impl<'a, N: Name, J: HandshakeOp> Side<'a, N, J> {
@@ -84,10 +93,12 @@ impl<'a, N: Name, J: HandshakeOp> Side<'a, N, J> {
     pub(super) fn step<R: Wait>(&mut self, rt: &R, call: StepCall) -> Said {
         match call {
             StepCall::Tell(name) => self.tell(rt, name),
-            StepCall::Hold(place) => self.hold(rt, place),
-            StepCall::Serve(place) => self.serve(rt, place),
+            StepCall::Hold(place) => of_done(self.coordinator.hold(rt, place).map_err(of_hold)),
+            StepCall::Serve(place) => of_done(self.coordinator.serve(rt, place).map_err(of_serve)),
             StepCall::Operate => self.operate(rt),
-            StepCall::Release(place) => self.release(rt, place),
+            StepCall::Release(place) => {
+                of_done(self.coordinator.release(rt, place).map_err(of_release))
+            }
         }
     }
 
@@ -115,32 +126,11 @@ impl<'a, N: Name, J: HandshakeOp> Side<'a, N, J> {
         }
     }
 
-    fn open<R: Wait>(&mut self, rt: &R) -> Said {
-        match self.coordinator.open(rt) {
-            Ok((number, _receipt)) => Said::Opened(number),
-            Err(fault) => of_open(fault),
-        }
-    }
-
     fn tell<R: Wait>(&mut self, rt: &R, name: u64) -> Said {
         match self.coordinator.tell(rt, name) {
             Ok(Told::Told(_)) => Said::Told,
             Ok(Told::Gone) => Said::Gone,
-            Err(fault) => of_tell(fault),
-        }
-    }
-
-    fn hold<R: Wait>(&mut self, rt: &R, place: usize) -> Said {
-        match self.coordinator.hold(rt, place) {
-            Ok(_) => Said::Done,
-            Err(fault) => of_hold(fault),
-        }
-    }
-
-    fn serve<R: Wait>(&mut self, rt: &R, place: usize) -> Said {
-        match self.coordinator.serve(rt, place) {
-            Ok(_receipt) => Said::Done,
-            Err(fault) => of_serve(fault),
+            Err(fault) => Said::Refused(of_tell(fault)),
         }
     }
 
@@ -156,24 +146,24 @@ impl<'a, N: Name, J: HandshakeOp> Side<'a, N, J> {
         Said::Census(number)
     }
 
-    fn release<R: Wait>(&mut self, rt: &R, place: usize) -> Said {
-        match self.coordinator.release(rt, place) {
-            Ok(_receipt) => Said::Done,
-            Err(fault) => of_release(fault),
+    fn open<R: Wait>(&mut self, rt: &R) -> Said {
+        match self.coordinator.open(rt) {
+            Ok((number, _receipt)) => Said::Opened(number),
+            Err(fault) => Said::Refused(of_open(fault)),
         }
     }
 
     fn close<R: Wait>(&mut self, rt: &R) -> Said {
         match self.coordinator.close(rt) {
             Ok((number, _receipt)) => Said::Closed(number),
-            Err(fault) => of_close(fault),
+            Err(fault) => Said::Refused(of_close(fault)),
         }
     }
 
     fn close_of<R: Wait>(&mut self, rt: &R, number: u64) -> Said {
         match self.coordinator.close_of(rt, number) {
             Ok(_receipt) => Said::Closed(number),
-            Err(fault) => of_close(fault),
+            Err(fault) => Said::Refused(of_close(fault)),
         }
     }
 

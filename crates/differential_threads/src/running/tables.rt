@@ -85,7 +85,7 @@ impl<'a, N: Name, J: HandshakeOp> Tables<'a, N, J> {
         match desk.look(self.shared.board(), serial, place) {
             Ok(true) => Said::Clear,
             Ok(false) => Said::Late,
-            Err(fault) => of_retire(fault),
+            Err(fault) => Said::Refused(of_retire(fault)),
         }
     }
 
@@ -94,7 +94,7 @@ impl<'a, N: Name, J: HandshakeOp> Tables<'a, N, J> {
         let desk = self.shared.desk().lock(rt);
         match desk.weigh_fault(serial) {
             None => Said::Done,
-            Some(fault) => of_retire(fault),
+            Some(fault) => Said::Refused(of_retire(fault)),
         }
     }
 }

@@ -50,7 +50,7 @@ fn of_polled(said: Result<Poll, State>) -> Said {
 fn of_returned(said: Result<Poll, ReturnFault>) -> Said {
     match said {
         Ok(poll) => of_poll(poll),
-        Err(fault) => of_return(fault),
+        Err(fault) => Said::Refused(of_return(fault)),
     }
 }
 
@@ -58,7 +58,7 @@ fn of_called(said: Result<Called, CallFault>) -> Said {
     match said {
         Ok(Called::Compiled(serial)) => Said::Compiled(serial),
         Ok(Called::Interpreted) => Said::Interpreted,
-        Err(fault) => of_call(fault),
+        Err(fault) => Said::Refused(of_call(fault)),
     }
 }
 
@@ -147,7 +147,7 @@ impl<'a, N: Name, J: HandshakeOp> Side<'a, N, J> {
         let thread = self.threads.swap_remove(index);
         match thread.exit(rt) {
             Ok(_receipt) => Said::Exited(name),
-            Err((fault, back)) => self.keep(back, of_exit(fault)),
+            Err((fault, back)) => self.keep(back, Said::Refused(of_exit(fault))),
         }
     }
 }

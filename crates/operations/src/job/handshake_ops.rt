@@ -1,4 +1,4 @@
-// What carries jobs without naming their box.
+// The trait of jobs.
 ghost use Rattle.std.specs.Prelude.{◌≡◌, ◌↔◌, ℕ};
 ghost use Rattle.frames.specs.ImageView.{ImageView, IsSettled};
 ghost use Rattle.operations.specs.declared.Ask.{Ask};
@@ -8,19 +8,19 @@ use super::{Call, Done, Job};
 use crate::Ask;
 use frames::image::Image;
 
-/// What can be run for a target, once, on the image of a settled stack. A `Job` is one; the layers that carry jobs
-/// are generic in it.
+/// A job, which runs once on the image of its target's settled stack. `Job` is one. The layers that carry jobs are
+/// generic in this trait, so they don't name the box.
 pub trait HandshakeOp: Drop {
     /// The number of its operation.
     ghost number: { Self → ℕ };
 
-    /// The name of the thread that it is for.
+    /// The name of its target.
     ghost whom: { Self → ℕ };
 
-    /// What it asks.
+    /// Its ask.
     ghost asks: { Self → Ask };
 
-    /// Its callback may answer this on this image.
+    /// Its callback may return this reply for this image.
     ghost may_answer: { Self → ImageView → ℕ → Type 0 };
 
     fn op_of(&self) -> u64
@@ -32,14 +32,14 @@ pub trait HandshakeOp: Drop {
     fn ask_of(&self) -> Ask
         ensures { result ≡ asks self.now };
 
-    /// The errand with another number.
+    /// Returns the job with another number.
     fn numbered(self, op: u64) -> Self
         ensures number { number result ≡ op }
         ensures same { (whom result ≡ whom self) × (asks result ≡ asks self) }
         ensures callback { (image : ImageView) (reply : ℕ)
             → may_answer result image reply ↔ may_answer self image reply };
 
-    /// Calls the callback on the image: the reply is what it answered there.
+    /// Runs the job on the image and returns the reply with the job's number, target and ask.
     fn run_on(self, image: &Image) -> Done
         requires { IsSettled image.now }
         ensures same { (result.op ≡ number self) × (result.target ≡ whom self)
@@ -73,7 +73,6 @@ impl HandshakeOp for Job {
         Job::numbered(self, op)
     }
 
-    /// Calls the callback on the image: the reply is what it answered there.
     fn run_on(self, image: &Image) -> Done {
         self.run(image)
     }

@@ -7,7 +7,7 @@ use super::{Done, HandshakeOp};
 use crate::Ask;
 use frames::image::Image;
 
-/// A job that answers its ask itself. It has no callback, so it takes no memory.
+/// A job that answers its ask without a callback, so it needs no memory.
 #[derive(Clone, Copy, Debug, PartialEq, Eq, Drop)]
 pub struct Query {
     op: u64,
@@ -16,7 +16,7 @@ pub struct Query {
 }
 
 impl Query {
-    /// A query that has no number yet.
+    /// Makes a query without a number.
     pub fn new(target: u64, ask: Ask) -> Query
         ensures number { ⟦<Query as HandshakeOp>⟧.number result ≡ 0 }
         ensures whom { ⟦<Query as HandshakeOp>⟧.whom result ≡ target }
@@ -57,7 +57,6 @@ impl HandshakeOp for Query {
         Query { op, ..self }
     }
 
-    /// Answers the ask on the image.
     #[inline(always)]
     fn run_on(self, image: &Image) -> Done {
         let Query { op, target, ask } = self;

@@ -1,4 +1,4 @@
-// Running a job, and what it gave.
+// Running a job, and its result.
 ghost use Rattle.std.specs.Prelude.{◌≡◌};
 ghost use Rattle.frames.specs.ImageView.{IsSettled};
 ghost use Rattle.operations.specs.Asks.{reply};
@@ -8,7 +8,7 @@ use crate::Ask;
 use frames::image::Image;
 use std::marker::Model;
 
-/// What an errand gave. It is made by an errand's run alone, with what the ask says of the image that it ran on.
+/// The result of a job. Only running a job makes one, so its reply is the ask's reply for the image of the run.
 #[derive(Drop, Debug)]
 pub struct Done {
     op: u64,
@@ -26,7 +26,7 @@ impl Model for Done {
 }
 
 impl Job {
-    /// Calls the callback on the image of a settled stack.
+    /// Calls the callback on the image of a settled stack and returns its reply.
     pub fn run(self, image: &Image) -> Done
         requires { IsSettled image.now }
         ensures same { (result.op ≡ ⟦<Job as HandshakeOp>⟧.number self)
@@ -46,7 +46,6 @@ impl Job {
     }
 }
 
-// What the callback answers.
 fn called(mut call: Call, image: &Image) -> u64
     requires { Call.pre call image }
     ensures { Call.post call image.entry result }
@@ -55,7 +54,7 @@ fn called(mut call: Call, image: &Image) -> u64
 }
 
 impl Done {
-    // The one maker: of a reply that is what the ask says of a settled image.
+    // Only this function makes a `Done`. The reply must be the ask's reply for a settled image.
     #[inline(always)]
     pub(super) fn of(op: u64, target: u64, ask: Ask, image: &Image, answered: u64) -> Done
         requires settled { IsSettled image.now }

@@ -1,4 +1,4 @@
--- When a census is taken of the threads that the system keeps, and what the index answers it.
+-- When the system's threads allow a census, and the answer of the index.
 use Rattle.std.specs.Prelude.{Bool, true, not, ◌&&◌, is_none, List, [], ◌∷◌, map, Option, Some, None, if◌then◌else◌, ◌≡◌, ◌≤◌, ℕ}
 use Rattle.std.specs.List.{list_all, list_any}
 use Rattle.std.specs.List.Sorted.{IsPermutation}
@@ -13,7 +13,7 @@ use Rattle.system.specs.declared.answers.Refusal.TheVariants.{NothingOpen, NotOf
 use Rattle.system.specs.declared.requests.Open.{Open}
 use Rattle.system.specs.declared.thread.Thread.{Thread as Kept}
 
--- A thread passes; a vacant place does.
+-- The thread passes the test, or the place is vacant.
 abbrev pub holds_at : (Kept → Bool) → Option Kept → Bool
 holds_at test None = true
 holds_at test (Some kept) = test kept
@@ -28,7 +28,7 @@ is_quiet_kept kept = not kept.image.publishing
 abbrev pub is_settled_kept : Kept → Bool
 is_settled_kept kept = not kept.image.publishing && is_none (next_code kept.image)
 
--- The first of the tests of the threads that fails.
+-- The first test of the threads that fails.
 abbrev pub census_refusal : List (Option Kept) → Option Refusal
 census_refusal kepts =
     if not (list_all (holds_at is_held_kept) kepts) then Some NotAllHeld
@@ -36,7 +36,7 @@ census_refusal kepts =
     else if not (list_all (holds_at is_settled_kept) kepts) then Some Unpublished
     else None
 
--- The first of all tests that fails, of the oldest open operation.
+-- The first test that fails, for the oldest open operation.
 abbrev pub operate_refusal : List Open → List (Option Kept) → Option Refusal
 operate_refusal [] kepts = Some NothingOpen
 operate_refusal (open_ ∷ opens) kepts =
@@ -48,16 +48,16 @@ operate_refusal (open_ ∷ opens) kepts =
 abbrev pub has_census : List Open → Bool
 has_census opens = list_any (λ open_. is_census open_.request) opens
 
--- The oldest open operation, operated.
+-- The open operations after the oldest is operated.
 abbrev pub operated : List Open → List Open
 operated [] = []
 operated (open_ ∷ opens) = record open_ { operated = true } ∷ opens
 
--- A serial and its count, as a census answers them.
+-- A serial and its count as an item of the census.
 abbrev pub named : ℕ × ℕ → CodeCount
 named pair = record { serial = pair.0; count = pair.1 }
 
--- What a census of the cells answers: those that count anything, and in rising serial where no serial has two such cells.
+-- The answer of a census: the cells with a count above 0. They are in rising serial if no serial has two such cells.
 pub record IsCensus (cells : List Entry) (counts : List CodeCount) : Type 0 where
   pub pairs : List (ℕ × ℕ)
   pub counts_are : counts ≡ map named pairs

@@ -1,5 +1,5 @@
--- What the acts of the threads do to the places that the system keeps. In each of these `old` and `new` are all places before and
--- after, `kept` is the thread that stands at the place before, and `answer` is what the event was answered.
+-- The acts of the system's threads at their places. Here `old` and `new` are all places before and after, `kept` is the
+-- thread at the place before, and `answer` is the answer to the event.
 use Rattle.std.specs.Prelude.{◌≡◌, ℕ, Bool, true, false, List, Option, Some, None, Result, Ok, Err, slice_get, slice_set}
 use Rattle.method_table.specs.TableView.{TableView}
 use Rattle.frames.specs.declared.Change.{Change as CodeChange}
@@ -17,18 +17,17 @@ use Rattle.system.specs.Marking.{SameThread}
 use Rattle.system.specs.Kept.Threads.{IsHere, PollIs}
 use Rattle.system.specs.Kept.Acts.{Lent, Did, DidNext, SaysExit}
 
--- The answer to what a thread did.
 abbrev pub answer_here : Result Answer Refusal → Answer
 answer_here (Ok answer) = answer
 answer_here (Err refusal) = Refused refusal
 
--- A thread did the plain act that is lent it as the definitions have it, in every world that has these codes and this thread.
+-- The thread did the plain act as the definitions say, in every world with these codes and this thread.
 abbrev pub DidAct : Lent → TableView → Kept → Kept → Result Answer Refusal → Type 0
 DidAct lent table old new result =
     (w : World) (t : Thread) → table.codes ≡ w.codes → table.methods ≡ w.methods → IsHere lent.opens old w.requests t
     → Did lent w.requests (here w lent.act t) old new t result
 
--- A thread did so at its place: what it is then, and what it answered.
+-- The thread did the act at its place: its new state and its result.
 pub record ActedAt (lent : Lent) (table : TableView) (place : ℕ) (kept : Kept) (old new : List (Option Kept)) (answer : Answer) : Type 0 where
   pub after : Kept
   pub result : Result Answer Refusal
@@ -36,7 +35,7 @@ pub record ActedAt (lent : Lent) (table : TableView) (place : ℕ) (kept : Kept)
   pub said : answer ≡ answer_here result
   pub places : new ≡ slice_set old place (Some after)
 
--- By what is found at the place: a place that there isn't, and one that is vacant, refuse.
+-- The result of the act by the state of the place. A missing or vacant place refuses.
 abbrev pub DidFound : Lent → TableView → ℕ → Option (Option Kept) → List (Option Kept) → List (Option Kept) → Answer → Type 0
 DidFound lent table place None old new answer = (answer ≡ Refused NoSuchPlace) × (new ≡ old)
 DidFound lent table place (Some None) old new answer = (answer ≡ Refused (Illegal Vacant)) × (new ≡ old)
@@ -46,47 +45,47 @@ DidFound lent table place (Some (Some kept)) old new answer = ActedAt lent table
 abbrev pub DidAt : Lent → TableView → ℕ → List (Option Kept) → List (Option Kept) → Answer → Type 0
 DidAt lent table place old new answer = DidFound lent table place (slice_get old place) old new answer
 
--- The thread at a place leaves it, where no refusal is found; a refusal leaves the place.
+-- The thread leaves its place unless the exit is refused.
 abbrev pub LeftUnless : ℕ → Kept → List (Option Kept) → List (Option Kept) → Option Refusal → Answer → Type 0
 LeftUnless place kept old new None answer = (answer ≡ Exited kept.name) × (new ≡ slice_set old place None)
 LeftUnless place kept old new (Some refusal) answer = (answer ≡ Refused refusal) × (new ≡ old)
 
--- The refusal that is found, or that none is, is what the definitions say of an exit.
+-- The refusal, or its absence, is as the definitions say.
 abbrev pub MayLeave : Kept → Option Refusal → Type 0
 MayLeave kept refusal =
     (w : World) (t : Thread) → SameThread kept t → PollIs w.requests t kept → SaysExit (here w act.Exit t) t refusal
 
--- By what is found at the place.
+-- The result of an exit by the state of the place.
 abbrev pub DidLeave : ℕ → Option (Option Kept) → List (Option Kept) → List (Option Kept) → Answer → Type 0
 DidLeave place None old new answer = (answer ≡ Refused NoSuchPlace) × (new ≡ old)
 DidLeave place (Some None) old new answer = (answer ≡ Refused (Illegal Vacant)) × (new ≡ old)
 DidLeave place (Some (Some kept)) old new answer = (refusal : Option Refusal) × MayLeave kept refusal × LeftUnless place kept old new refusal answer
 
--- The thread at the place left it.
+-- The thread at the place exited.
 abbrev pub DidExit : ℕ → List (Option Kept) → List (Option Kept) → Answer → Type 0
 DidExit place old new answer = DidLeave place (slice_get old place) old new answer
 
--- The thread at a place counts its next change.
+-- The thread did its next change as the definitions say.
 abbrev pub DidCount : Kept → Kept → Result (Option CodeChange) Refusal → Type 0
 DidCount old new result = (w : World) (t : Thread) → SameThread old t → DidNext (here w act.Change t) old new t result
 
--- It did so at its place: what it is then.
+-- The thread did the change at its place: its new state.
 pub record CountedAt (place : ℕ) (kept : Kept) (old new : List (Option Kept)) (result : Result (Option CodeChange) Refusal) : Type 0 where
   pub after : Kept
   pub did : DidCount kept after result
   pub places : new ≡ slice_set old place (Some after)
 
--- By what is found at the place.
+-- The result of a change by the state of the place.
 abbrev pub DidCountAt : ℕ → Option (Option Kept) → List (Option Kept) → List (Option Kept) → Result (Option CodeChange) Refusal → Type 0
 DidCountAt place None old new result = (result ≡ Err NoSuchPlace) × (new ≡ old)
 DidCountAt place (Some None) old new result = (result ≡ Err (Illegal Vacant)) × (new ≡ old)
 DidCountAt place (Some (Some kept)) old new result = CountedAt place kept old new result
 
--- The thread at the place counted its next change.
+-- The thread at the place did its next change.
 abbrev pub DidChange : ℕ → List (Option Kept) → List (Option Kept) → Result (Option CodeChange) Refusal → Type 0
 DidChange place old new result = DidCountAt place (slice_get old place) old new result
 
--- The frames at a place.
+-- The answer to a Stack by the state of the place.
 abbrev pub frames_at : Option (Option Kept) → Answer
 frames_at None = Refused NoSuchPlace
 frames_at (Some None) = Refused (Illegal Vacant)

@@ -1,4 +1,4 @@
--- What is written down of a code that isn't entrant, and what decides a look.
+-- The record of a code that isn't entrant, and the test of a look.
 use Rattle.std.specs.Prelude.{ℕ, Bool, true, false, not, ◌||◌, nat_lt, replicate, slice_set, Option, Some, None, Result, Ok, Err, if◌then◌else◌}
 use Rattle.method_table.specs.declared.Code.{Code}
 use Rattle.method_table.specs.Codes.{is_not_entrant}
@@ -7,20 +7,20 @@ use Rattle.system.specs.declared.answers.Refusal.TheVariants.{Unknown, NotNotEnt
 use Rattle.system.specs.declared.records.Record.{Record}
 use Rattle.system.specs.declared.thread.Thread.{Thread as Kept}
 
--- Invalidated at this moment, no place looked at.
+-- A record of an invalidation at this moment, without looks.
 abbrev pub new_record : ℕ → Record
 new_record left = record { left = left; looked = replicate 64 false }
 
--- The place was looked at and found clear.
+-- The record with a Clear look at the place.
 abbrev pub with_look : Record → ℕ → Record
 with_look r place = record r { looked = slice_set r.looked place true }
 
--- Looks and weighs are of a code that is not entrant.
+-- Look and Weigh need a code that is not entrant.
 abbrev pub not_entrant : Option Code → Result Code Refusal
 not_entrant None = Err Unknown
 not_entrant (Some code) = if is_not_entrant code.state then Ok code else Err NotNotEntrant
 
--- Nothing is published at the place, or what is published is later than the moment.
+-- The place has no published stack, or the last ended publication began in a later moment.
 abbrev pub is_clear : ℕ → Option Kept → Bool
 is_clear left None = true
 is_clear left (Some kept) = not kept.published || nat_lt left kept.moments.stored

@@ -1,4 +1,4 @@
--- What an open operation asks of the places that the system keeps.
+-- The system's tests of open operations at places.
 use Rattle.std.specs.Prelude.{ℕ, Bool, true, false, not, ◌&&◌, ◌||◌, ◌==◌, if◌then◌else◌, nat_lt, nat_le, find, List, Option, Some, None}
 use Rattle.std.specs.List.{list_all, list_any}
 use Rattle.operations.specs.declared.Request.{Request}
@@ -11,7 +11,7 @@ use Rattle.system.specs.declared.requests.Open.{Open}
 use Rattle.system.specs.declared.thread.Thread.{Thread as Kept}
 use Rattle.system.specs.Kept.Threads.{is_live_for, live_by, untold_by}
 
--- A target of the operation is held at the place; a thread of this name is there.
+-- A target of the operation is held at the place; the thread at the place has this name.
 abbrev pub is_held_for : Open → Option Kept → Bool
 is_held_for open_ None = false
 is_held_for open_ (Some kept) = kept.held && is_target open_.request kept.name
@@ -20,22 +20,22 @@ abbrev pub is_named_at : ℕ → Option Kept → Bool
 is_named_at name None = false
 is_named_at name (Some kept) = kept.name == name
 
--- No live target is at the place, or one for which the operation is cleared.
+-- No live target is at the place, or the operation is cleared for it.
 abbrev pub is_clear_at : Open → Option Kept → Bool
 is_clear_at open_ None = true
 is_clear_at open_ (Some kept) = nat_le open_.number kept.marks.cleared || not (is_live_for open_ kept)
 
--- A census is operated, and each live target is cleared.
+-- The operation is over: a census is operated, and the operation is cleared for each live target.
 abbrev pub is_over_at : Open → List (Option Kept) → Bool
 is_over_at open_ kepts = (not (is_census open_.request) || open_.operated) && list_all (is_clear_at open_) kepts
 
--- A handshake may be told to the names that it lists, a census to each of so many names given out.
+-- A handshake may be told to the threads that it lists, a census to each of the first `given` names.
 abbrev pub may_tell_of : ℕ → Request → ℕ → Bool
 may_tell_of given (Handshake targets ask) name = is_target (Handshake targets ask) name
 may_tell_of given Census name = nat_lt 0 name && nat_le name given
 
--- What a Tell answers where it found an operation that is new to the thread, and where it found none, by whether one may be told to the
--- name, and whether one has the thread as a live target.
+-- The answer to a Tell: whether an untold operation was found, whether one may be told to the name, and whether one has
+-- the thread as a live target.
 abbrev pub answer_of_told : Option Open → Bool → Bool → Answer
 answer_of_told None may live = if not may then Refused NotOf else if live then Refused AlreadyTold else Gone
 answer_of_told (Some open_) may live = Told

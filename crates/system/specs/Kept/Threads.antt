@@ -1,5 +1,5 @@
--- What the tests and acts of a thread ask, said over the numbers that the system keeps of it. The rules that these restate stand in
--- `Places.antt` and `Step.antt`: the proofs show that both say the same, and the headline speaks of those alone.
+-- The tests and acts of a thread over the system's numbers. `Places.antt` and `Step.antt` have the rules that these
+-- restate. Proofs show that both agree, and the headline cites only those.
 use Rattle.std.specs.Prelude.{◌≡◌, ℕ, Bool, true, false, not, ◌&&◌, ◌||◌, ◌==◌, List, [], ◌∷◌, Option, Some, None, find, length, nat_lt, nat_le, if◌then◌else◌}
 use Rattle.std.specs.List.{list_any}
 use Rattle.thread_state.specs.declared.State.TheVariants.{New}
@@ -18,21 +18,21 @@ use Rattle.system.specs.Threads.{Thread}
 use Rattle.system.specs.Marking.{SameThread}
 use Rattle.system.specs.Places.{Effect, may_while_publishing, lawful_in, pushed}
 
--- The poll, by the last operation that was told and the last that is cleared.
+-- A poll stops for the operation last told, unless it is cleared.
 abbrev pub poll_by : Marks → Option ℕ
 poll_by m = if m.told == m.cleared then None else Some m.told
 
--- The thread's poll is the one kept.
+-- The world's poll of the thread is the system's.
 abbrev pub PollIs : Requests → Thread → Kept → Type 0
 PollIs requests t kept = poll_of requests t.name ≡ poll_by kept.marks
 
--- The thread is a live target where the request is of it and it started before the operation was opened.
+-- The thread is a live target: it is a target of the request and started before the operation was opened.
 abbrev pub is_live_for : Open → Kept → Bool
 is_live_for open_ kept = nat_le kept.name open_.names && is_target open_.request kept.name
 
--- The operation was told to the thread, is done for it, or is cleared for it. Numbers are told to a thread in rising order, none
--- of which it is a live target is left out, and they are done and cleared in that order. So of the number told last no target is looked up.
--- A census is done for all where it was operated.
+-- The operation was told to the thread, or is done for it. Numbers are told in rising order and skip no operation that
+-- has the thread as a live target. The number last told is of such an operation and needs no lookup. A census is done
+-- for all once it is operated.
 abbrev pub was_told : Open → Kept → Bool
 was_told open_ kept = nat_le open_.number kept.marks.told && ((open_.number == kept.marks.told) || is_live_for open_ kept)
 
@@ -45,7 +45,7 @@ told_by kept open_ = was_told open_ kept
 abbrev pub undone_by : Kept → Open → Bool
 undone_by kept open_ = was_told open_ kept && not (is_done open_ kept)
 
--- The request of an operation that is found undone lists the thread: a handshake's does, where it was told.
+-- An open handshake lists the thread. An undone handshake was told to the thread, so it lists the thread.
 abbrev pub is_asked : Kept → Open → List Open → Bool
 is_asked kept open_ opens = not (is_census open_.request) || list_any (λ o. lists o.request kept.name) opens
 
@@ -55,7 +55,7 @@ uncleared_by kept open_ = was_told open_ kept && nat_lt kept.marks.cleared open_
 abbrev pub awaited_by : Kept → Open → Bool
 awaited_by kept open_ = is_census open_.request && not open_.operated && was_told open_ kept
 
--- The operation is new to its live target; a Tell tells the least one that is.
+-- The operation has the thread as a live target and wasn't told to it. A Tell takes the least such operation.
 abbrev pub untold_by : Kept → Open → Bool
 untold_by kept open_ = nat_lt kept.marks.told open_.number && is_live_for open_ kept
 
@@ -69,11 +69,12 @@ marks_told kept (Some open_) = record kept { marks = record kept.marks { told = 
 abbrev pub kept_told : List Open → Kept → Kept
 kept_told opens kept = marks_told kept (find (untold_by kept) opens)
 
--- Why no operation waits for the thread: none is open, none is of it, none was told to it, or each that was told is served.
+-- Why no operation is pending for a thread: none is open, the thread is a target of none, none was told to it, or all
+-- told to it are served.
 abbrev pub idle_refusal : Bool → Bool → Bool → Refusal
 idle_refusal empty of told = if empty then NothingOpen else if not of then NotOf else if not told then NotTold else AlreadyDone
 
--- An open operation, and what the thread's marks say of it; done and cleared count for a thread that was told.
+-- An open operation and the thread's marks for it. Done and cleared count only if it was told.
 pub record SameOpen (open_ : Open) (kept : Kept) (requests : Requests) (o : Opened) : Type 0 where
   pub number : open_.number ≡ o.number
   pub request : open_.request ≡ o.request
@@ -83,26 +84,26 @@ pub record SameOpen (open_ : Open) (kept : Kept) (requests : Requests) (o : Open
   pub done : is_marked requests.told o.number kept.name ≡ true → is_marked requests.done o.number kept.name ≡ is_done open_ kept
   pub cleared : is_marked requests.told o.number kept.name ≡ true → is_marked requests.cleared o.number kept.name ≡ nat_le open_.number kept.marks.cleared
 
--- One for one, the oldest first.
+-- The lists match one for one, the oldest first.
 abbrev pub OpenBy : List Open → Kept → Requests → List Opened → Type 0
 OpenBy [] kept requests [] = Unit {0}
 OpenBy (open_ ∷ opens) kept requests (o ∷ os) = SameOpen open_ kept requests o × OpenBy opens kept requests os
 OpenBy opens kept requests opened = ⊥
 
--- All that an act of the thread asks: the thread, its poll, and the open operations.
+-- The state that an act uses: the thread, its poll and the open operations.
 pub record IsHere (opens : List Open) (kept : Kept) (requests : Requests) (t : Thread) : Type 0 where
   pub thread : SameThread kept t
   pub poll : poll_of requests t.name ≡ poll_by kept.marks
   pub opened : OpenBy opens kept requests requests.opened
 
--- The first of the tests that all acts of a thread have in common that fails.
+-- The first common test of all acts that fails.
 abbrev pub common_refusal : Kept → Act → Option Refusal
 common_refusal kept act =
     if kept.image.publishing && not (may_while_publishing act) then Some Publishing
     else if not (lawful_in act kept.held kept.state) then Some (Illegal kept.state)
     else None
 
--- A frame goes on top of the stack, where the thread has published and there is room.
+-- Pushes a frame if the thread has published and the stack has room.
 abbrev pub enters_frame : Thread → ℕ → Option CodeId → Verdict Effect
 enters_frame t method code =
     unless t.published refuse Unpublished then
@@ -116,7 +117,7 @@ frame_refusal kept =
     else if nat_le 256 (length kept.image.frames) then Some DepthFull
     else None
 
--- A new thread: its stack is empty, and it has published nothing.
+-- A new thread has an empty stack and no publication.
 pub record IsNew (kept : Kept) (name : ℕ) : Type 0 where
   pub name_is : kept.name ≡ name
   pub state_is : kept.state ≡ New

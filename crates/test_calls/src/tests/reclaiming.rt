@@ -4,15 +4,9 @@ use std::test::*;
 
 // A thread in Java is late if it has left the code and hasn't published since.
 const LATE: &str = "
-    install 0 = 1
-    start = 1
-    call 1 0 = compiled 1
-    invalidate 1 = ok
-    ret 1 = go
-    reclaim 1 = late 0
-    publish 1 = ok
-    exit 1 = exited
-    reclaim 1 = freed
+    install 0 = 1; start = 1; call 1 0 = compiled 1; invalidate 1 = ok
+    ret 1 = go; reclaim 1 = late 0
+    publish 1 = ok; exit 1 = exited; reclaim 1 = freed
 ";
 
 #[test]
@@ -22,26 +16,15 @@ fn a_thread_that_has_not_published_since_is_late(rt: HostRuntime) -> Result<(), 
 
 // Each of two threads is late until it has published after a round. Then its frames count until it has left them.
 const USED: &str = "
-    install 0 = 1
-    start = 1
-    call 1 0 = compiled 1
-    start = 2
-    call 2 0 = compiled 1
+    install 0 = 1; start = 1; call 1 0 = compiled 1; start = 2; call 2 0 = compiled 1
     invalidate 1 = ok
 
-    publish 1 = ok
-    reclaim 1, reclaim 1 = late 0
-    publish 1 = ok
-    reclaim 1 = late 1
-    publish 2 = ok
+    publish 1 = ok; reclaim 1, reclaim 1 = late 0
+    publish 1 = ok; reclaim 1 = late 1
+    publish 2 = ok; reclaim 1 = used 2
 
-    reclaim 1 = used 2
-    ret 1 = go
-    exit 1 = exited
-    reclaim 1 = used 1
-    ret 2 = go
-    exit 2 = exited
-    reclaim 1 = freed
+    ret 1 = go; exit 1 = exited; reclaim 1 = used 1
+    ret 2 = go; exit 2 = exited; reclaim 1 = freed
 ";
 
 #[test]

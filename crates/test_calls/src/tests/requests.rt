@@ -3,25 +3,16 @@ use crate::tests::rows::play;
 use std::test::*;
 
 const EXITS: &str = "
-    start = 1
-    start = 2
-    submit depth of 1 2 = 1
-    submit depth of 3 = 2
+    start = 1; start = 2
+    submit depth of 1 2 = 1; submit depth of 3 = 2
 
     # A third thread starts in the place of the first.
-    exit 1 = exited
-    start = 3
-    place 3 = 0
+    exit 1 = exited; start = 3; place 3 = 0
 
     # Of the names 1 and 2 the first is gone, and the name 3 isn't asked. The second thread, in native code, is held and served.
     open = 1
-    tell 1 = gone
-    tell 3 = NotOf
-    tell 2 = told
-    to_native 2 = ok
-    hold 1 = ok
-    serve 1 = ok
-    release 1 = ok
+    tell 1 = gone; tell 3 = NotOf; tell 2 = told
+    to_native 2, hold 1, serve 1, release 1 = ok
     close = 1
 
     # The third exits after it was told, and so serves before.
@@ -31,10 +22,8 @@ const EXITS: &str = "
     exit 3 = exited
     close = 2
 
-    from_native 2 = go
-    exit 2 = exited
-    replies 1 = [(2, 0)]
-    replies 2 = [(3, 0)]
+    from_native 2 = go; exit 2 = exited
+    replies 1 = [(2, 0)]; replies 2 = [(3, 0)]
 ";
 
 #[test]
@@ -44,17 +33,12 @@ fn a_target_exits_before_and_after_it_is_told(rt: HostRuntime) -> Result<(), Fai
 
 const REFUSALS: &str = "
     # No thread has started.
-    hold 0 = Vacant
-    serve 0 = Vacant
-    release 0 = Vacant
+    hold 0, serve 0, release 0 = Vacant
 
     # Nothing is open.
-    start = 1
-    start = 2
+    start = 1; start = 2
     open = QueueEmpty
-    tell 1 = NothingOpen
-    close = NothingOpen
-    operate = NothingOpen
+    tell 1, close, operate = NothingOpen
 
     # Nothing is held, and there is no place 2.
     hold 2 = NoSuchPlace
@@ -67,19 +51,14 @@ const REFUSALS: &str = "
     # The first thread, in native code, is told.
     to_native 1 = ok
     submit depth of 1 2 = 1
-    open = 1
-    open = QueueEmpty
-    hold 0 = NotTold
-    tell 3 = NotOf
-    tell 1 = told
-    tell 1 = AlreadyTold
+    open = 1; open = QueueEmpty
+    hold 0 = NotTold; tell 3 = NotOf
+    tell 1 = told; tell 1 = AlreadyTold
 
     # It is held and served.
-    hold 0 = ok
-    hold 0 = Held
+    hold 0 = ok; hold 0 = Held
     operate = NotOf
-    serve 0 = ok
-    serve 0 = AlreadyDone
+    serve 0 = ok; serve 0 = AlreadyDone
 
     # It is released, and the handshake isn't closed before the second thread has answered.
     close = Held
@@ -129,18 +108,20 @@ fn each_call_is_refused_in_its_order(rt: HostRuntime) -> Result<(), Fail> {
 // Two threads are in native code. Depth and frames of the two codes are 5, 1 and 3 for the first, and 7, 2 and 4 for the second, so that
 // the replies tell the handshakes apart.
 const TWO_THREADS: &str = "
-    install 0 = 1
-    install 1 = 2
-    start = 1
-    call 1 0 = compiled 1
-    1..3: call 1 1 = compiled 2
-    call 1 0 none = interpreted
-    to_native 1 = ok
-    start = 2
-    1..2: call 2 0 = compiled 1
-    1..4: call 2 1 = compiled 2
-    call 2 0 none = interpreted
-    to_native 2 = ok
+    install 0 = 1; install 1 = 2
+    start = 1; call 1 0 = compiled 1; 1..3: call 1 1 = compiled 2
+    call 1 0 none = interpreted; to_native 1 = ok
+    start = 2; 1..2: call 2 0 = compiled 1; 1..4: call 2 1 = compiled 2
+    call 2 0 none = interpreted; to_native 2 = ok
+";
+
+// The two threads come back, leave their frames and exit.
+const TWO_EXITS: &str = "
+    from_native 1, from_native 2 = go
+    1..5: ret 1 = go
+    1..7: ret 2 = go
+    ret 1, ret 2 = EmptyStack
+    exit 1, exit 2 = exited
 ";
 
 const FOUR: &str = "
@@ -197,17 +178,11 @@ const FOUR: &str = "
     close = 1
     close = 3
     close = NothingOpen
-
-    from_native 1, from_native 2 = go
-    1..5: ret 1 = go
-    1..7: ret 2 = go
-    ret 1, ret 2 = EmptyStack
-    exit 1, exit 2 = exited
 ";
 
 #[test]
 fn four_are_told_and_served_in_order(rt: HostRuntime) -> Result<(), Fail> {
-    let text = format!(in rt.alloc(); "{TWO_THREADS}{FOUR}")?;
+    let text = format!(in rt.alloc(); "{TWO_THREADS}{FOUR}{TWO_EXITS}")?;
     play(&rt, rt.alloc(), [2, 4, 2], &text)
 }
 
@@ -230,43 +205,29 @@ const DRIVEN: &str = "
     drive_four = QueueEmpty
     replies 5 = []
     peek_counts = 10
-
-    from_native 1, from_native 2 = go
-    1..5: ret 1 = go
-    1..7: ret 2 = go
-    exit 1, exit 2 = exited
 ";
 
 #[test]
 fn four_are_driven_at_once(rt: HostRuntime) -> Result<(), Fail> {
-    let text = format!(in rt.alloc(); "{TWO_THREADS}{DRIVEN}")?;
+    let text = format!(in rt.alloc(); "{TWO_THREADS}{DRIVEN}{TWO_EXITS}")?;
     play(&rt, rt.alloc(), [2, 4, 2], &text)
 }
 
 const OLDEST: &str = "
     # The first thread is in native code, and neither calls anything.
-    start = 1
-    to_native 1 = ok
-    start = 2
-    submit depth of 1 = 1
-    submit depth of 2 = 2
-    open = 1
-    open = 2
+    start = 1; to_native 1 = ok; start = 2
+    submit depth of 1 = 1; submit depth of 2 = 2
+    1..2: open = *
 
     # A drive that slept for the target of the second handshake would never return.
-    drive = handshake 1
-    close = NotDone
-    replies 1 = [(1, 0)]
-    replies 2 = []
+    drive = handshake 1; close = NotDone
+    replies 1 = [(1, 0)]; replies 2 = []
 
     # The second thread comes to a poll and serves itself, and the second is closed.
-    back_edge 2 = stop 2
-    stop 2 = served
-    drive = handshake 2
-    replies 2 = [(2, 0)]
+    back_edge 2 = stop 2; stop 2 = served
+    drive = handshake 2; replies 2 = [(2, 0)]
 
-    from_native 1 = go
-    exit 1, exit 2 = exited
+    from_native 1 = go; exit 1, exit 2 = exited
 ";
 
 #[test]
@@ -276,21 +237,14 @@ fn the_oldest_is_closed_past_a_later_one(rt: HostRuntime) -> Result<(), Fail> {
 
 // `drive` completes a request that was opened by hand, with armed polls and held threads; these threads continue then.
 const HELD_AND_DRIVEN: &str = "
-    start = 1
-    start = 2
-    to_native 1, to_native 2 = ok
+    start = 1; start = 2; to_native 1, to_native 2 = ok
     submit depth of 1 2 = 1
-    open = 1
-    tell 1 = told
-    hold 0 = ok
-    drive = handshake 1
-    replies 1 = [(1, 0), (2, 0)]
+    open = 1; tell 1 = told; hold 0 = ok
+    drive = handshake 1; replies 1 = [(1, 0), (2, 0)]
     release 0 = NotHeld
 
-    submit census = 2
-    open = 2
-    tell 1, tell 2 = told
-    hold 1 = ok
+    submit census, open = 2
+    tell 1, tell 2 = told; hold 1 = ok
     drive = (2, [])
     release 1 = NotHeld
 

@@ -113,6 +113,7 @@ state 1 => Some(Freed); invalidate 1 => Err(Unknown); retire 1 => Err(Unknown); 
 fn codes_are_found_until_they_are_freed(rt: HostRuntime) {
     // At the end, another code has the slot of the freed code.
     let rows = "\
+find 1 => None; state 1 => None
 install 0 => Ok(Installed { code: CodeId { slot: 0, serial: 1 }, replaced: None })
 install 1 => Ok(Installed { code: CodeId { slot: 1, serial: 2 }, replaced: None })
 invalidate 1 => Ok(())

@@ -3,18 +3,11 @@ use crate::tests::rows::play;
 use std::test::*;
 
 const CENSUS: &str = "
-    c fork a = 0; c fork b = 0; c fork d = 0; c fork k = 0
-    k install 0 = 1
-    k install 1 = 2
-    a start = 1
-    a call 0 = 1
-    1..2: a call 1 = 2
-    b start = 2
-    b call 1 = 2
-    b call 2, b to_native = 0
-    k census = 1
-    k target 1 = 0
-    k submit depth = 2
+    c fork d = 0
+    k install 0 = 1; k install 1 = 2
+    a start = 1; a call 0 = 1; 1..2: a call 1 = 2
+    b start = 2; b call 1 = 2; b call 2, b to_native = 0
+    k census = 1; k submit depth of 1 = 2
 
     # What waits isn't open.
     c open_kind = 0
@@ -56,9 +49,7 @@ const CENSUS: &str = "
     c operate = Operate(Refused(AlreadyDone))
     c open_kind = 2
     c hold 0 = Hold(AlreadyDone)
-    c counted 1 = 1
-    c counted 2 = 3
-    c counted 3 = 0
+    c counted 1 = 1; c counted 2 = 3; c counted 3 = 0
     k counted 1, a counted 2 = 0
     d start = Start(SafepointOpen)
     c close = Close(Held)
@@ -67,7 +58,7 @@ const CENSUS: &str = "
     b from_native = Again
     c close = Close(Held)
     c release 1, b from_native = 0
-    k reply 1 1 = NotAnswered
+    k reply 1 1 = Pending
     c open_kind = 2
     c close = 1
     c open_kind = 0
@@ -77,9 +68,7 @@ const CENSUS: &str = "
     d start = 3
     c open, c tell 1, a back_edge, a stop_next = 2
     c open_kind = 1
-    a stop_serve = 0
-    c close = 2
-    k reply 2 1 = 3
+    a stop_serve = 0; c close = 2; k reply 2 1 = 3
 ";
 
 #[test]
@@ -89,31 +78,21 @@ fn a_census_counts_all_held_threads(rt: HostRuntime) -> Result<(), Fail> {
 
 // Threads that exit while a census is open. A thread whose poll isn't armed exits at once, the other once it is counted.
 const LEAVING: &str = "
-    c fork a = 0; c fork b = 0; c fork k = 0
-    k install 0 = 1
-    a start = 1
-    b start = 2
+    k install 0 = 1; a start = 1; b start = 2
 
     # A handshake that is open keeps the census waiting, and that what waits behind it.
-    k target 1 = 0
-    k submit depth = 1
-    k census = 2
-    k target 2 = 0
-    k submit depth = 3
-    c open = 1
-    c open = Open(AlreadyOpen)
+    k submit depth of 1 = 1; k census = 2; k submit depth of 2 = 3
+    c open = 1; c open = Open(AlreadyOpen)
     c tell 1, a back_edge, a stop_next = 1
     a stop_serve = 0
     c close = 1
-    c open = 2
-    c open = Open(AlreadyOpen)
+    c open = 2; c open = Open(AlreadyOpen)
 
     c tell 2 = 2
     a exit = 0
     c tell 1 = 0
     c hold 0 = Hold(Vacant)
-    b exit = 2
-    b stop_next = Again
+    b exit = 2; b stop_next = Again
     c hold 1, c operate = 2
     c counted 1 = 0
     c release 1 = 0

@@ -7,7 +7,7 @@ use test_support::rows::print_refused;
 // A `|` begins checks that hold after the act before it found no memory: it started no thread, submitted nothing, replied to nothing, and
 // kept the names of a request. The depths and the frames of the code differ, so that the replies show which jobs were made.
 const COUNTED: &str = "
-    c fork a = 0; c fork b = 0; c fork k = 0
+    c fork d = 0
     k install 0 = 1 | c open = Open(QueueEmpty) | k invalidate 1 = Invalidate(Unknown)
     a start = 1 | k live_after 0 = 0 | a name = NotThis
     1..2: a call 0 = 1

@@ -3,7 +3,7 @@ ghost use Rattle.std.specs.Prelude.{◌<◌, length, IfSome};
 
 use crate::tests::acts::act_of;
 use bodies::Name;
-use parties::acts::Fault;
+use parties::acts::{Act, Fault};
 use parties::party::Party;
 use parties::system::SharedSystem;
 use std::alloc::{AllocError, Global};
@@ -33,8 +33,21 @@ fn told(alloc: Global, answer: Result<u64, Fault>) -> Said {
     }
 }
 
+// The answer of an act. `submit depth of 1 2` names the targets of the request first; where a naming fails, its answer is shown.
+fn answer_with<N: Name>(alloc: Global, party: &mut Party<N>, act: &str) -> Option<Said> {
+    let (act, names) = act.split_once(" of ").unwrap_or((act, ""));
+    let act = act_of(act)?;
+    for name in names.split_whitespace() {
+        match party.act(Act::Target(name.parse().ok()?)) {
+            Ok(0) => {}
+            answer => return Some(shown(alloc, answer)),
+        }
+    }
+    Some(told(alloc, party.act(act)))
+}
+
 impl<N: Name> Host<N> {
-    /// A host whose only party is the coordinator, `c`.
+    /// A host of the coordinator, `c`, and three parties that it forked: `a`, `b` and `k`.
     pub fn new(
         alloc: Global,
         system: Arc<SharedSystem<N>>,
@@ -44,6 +57,9 @@ impl<N: Name> Host<N> {
             system,
             members: Vec::new(alloc),
         };
+        for name in ["a", "b", "k"] {
+            host.keep(alloc, name, coordinator.fork()?)?;
+        }
         host.keep(alloc, "c", coordinator)?;
         Ok(host)
     }
@@ -88,7 +104,7 @@ impl<N: Name> Host<N> {
         }
         match act.strip_prefix("fork ") {
             Some(other) => Some(self.fork(alloc, index, other)),
-            None => Some(told(alloc, self.members[index].party.act(act_of(act)?))),
+            None => answer_with(alloc, &mut self.members[index].party, act),
         }
     }
 

@@ -3,13 +3,9 @@ use crate::tests::rows::play;
 use std::test::*;
 
 const DESK: &str = "
-    c fork a = 0; c fork b = 0; c fork k = 0
     while desk: a start = Again
-    a name = NotThis
-    k live_after 0 = 0
-    a start = 1
-    b start = 2
-    k install 0 = 1
+    a name = NotThis; k live_after 0 = 0
+    a start = 1; b start = 2; k install 0 = 1
 
     # What takes no lock goes on.
     while desk: c fork d, a place, a state, a back_edge, a publish, a to_vm, a from_vm = 0
@@ -37,7 +33,7 @@ const DESK: &str = "
     while desk: a stop_next = 1
     while desk: a stop_serve = Again
     a state = 5
-    k reply 1 1 = NotAnswered
+    k reply 1 1 = Pending
     a stop_serve = 0
     b to_native = 0
     while desk: c hold 1 = Again
@@ -69,9 +65,7 @@ fn an_act_tries_the_desk(rt: HostRuntime) -> Result<(), Fail> {
 }
 
 const ROOM: &str = "
-    c fork a = 0; c fork k = 0
-    a start = 1
-    k install 0 = 1
+    a start = 1; k install 0 = 1
 
     # What takes no lock, or the desk's alone, goes on.
     while room 0: a place, a state, a back_edge, a publish, a to_vm, a from_vm, k live_after 1, k forget = 0
@@ -109,8 +103,7 @@ const ROOM: &str = "
     a unblock, a from_vm = 0
 
     # At a poll, and at the exit.
-    k target 1 = 0
-    k submit depth, c open, c tell 1, a back_edge = 2
+    k submit depth of 1, c open, c tell 1, a back_edge = 2
     while room 0: a stop_next = Again
     a state, a stop_next = 2
     while room 0: a stop_serve, a state = 0
@@ -128,8 +121,6 @@ fn an_act_tries_the_room(rt: HostRuntime) -> Result<(), Fail> {
 // A Start is entered before the thread has its place; an Exit is entered only after the thread has given its place up. Between the two
 // steps the party is no thread, but its name is live.
 const BETWEEN: &str = "
-    c fork a = 0; c fork b = 0; c fork k = 0
-
     # The name lives, and is no thread yet: it can't be told, and a census waits for it.
     while room 0: a start, a start = Again
     k live_after 0 = 1
@@ -149,21 +140,18 @@ const BETWEEN: &str = "
     c close = 1
 
     # It gave its place up, and is no thread. The name lives until the Exit is entered.
-    k target 1 = 0
-    k submit depth, c open = 2
+    k submit depth of 1, c open = 2
     while desk: a exit, a exit = Again
     a name, a place, a state, a call 0, a back_edge, a stop_next, a start = NotThis
     k live_after 0 = 1
     b start = Start(PlacesFull)
     c tell 1 = Again
     c close = Close(NotDone)
-    a exit = 0
-    a exit = NotThis
+    a exit = 0; a exit = NotThis
     k live_after 0, c tell 1 = 0
     c close = 2
     k reply 2 1 = NotAnswered
-    b start = 2
-    b place = 0
+    b start = 2; b place = 0
 ";
 
 #[test]

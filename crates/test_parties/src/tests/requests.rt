@@ -4,18 +4,12 @@ use std::test::*;
 
 // The stacks differ in all that a handshake can query, so that the replies tell the threads and the queries apart.
 const SERVED: &str = "
-    c fork a = 0; c fork b = 0; c fork k = 0
-    k install 0 = 1
-    k install 1 = 2
-    a start = 1
-    1..2: a call 0 = 1
-    a call 1 = 2
-    b start = 2
-    b call 1 = 2
+    k install 0 = 1; k install 1 = 2
+    a start = 1; 1..2: a call 0 = 1; a call 1 = 2
+    b start = 2; b call 1 = 2
 
     # Two running threads are asked for their depths.
-    k target 1, k target 2 = 0
-    k submit depth = 1
+    k submit depth of 1 2 = 1
     c open = 1
     a back_edge = 0
     c close = Close(NotDone)
@@ -31,7 +25,7 @@ const SERVED: &str = "
     c hold 0 = Hold(NotSafe)
     a stop_next = 1
     a state = 5
-    k reply 1 1 = NotAnswered
+    k reply 1 1 = Pending
     a stop_serve = 0
     k reply 1 1 = 2
     a back_edge = 0
@@ -44,28 +38,21 @@ const SERVED: &str = "
     b stop_serve = 0
     c close = 1
     k reply 1 2 = 2
-    k reply 1 3, k reply 2 1 = NotAnswered
+    k reply 1 3 = NotAnswered; k reply 2 1 = Pending
 
     # The frames of a code, and the code of the top frame: it is interpreted at the second.
-    k target 2, k target 1 = 0
-    k submit count_of 1 = 2
-    k target 1, k target 2 = 0
-    k submit top = 3
-    c open = 2
-    c open = 3
-    c tell 1, c tell 2 = 2
-    c tell 1, c tell 2 = 3
+    k submit count_of 1 of 2 1 = 2
+    k submit top of 1 2 = 3
+    2..3: c open = *
+    2..3: c tell 1, c tell 2 = *
     a back_edge, b back_edge = 3
     a stop_next, b stop_next = 2
     a stop_serve, b stop_serve = 3
     a stop_next, b stop_next = 3
     a stop_serve, b stop_serve = 0
-    c close = 2
-    c close = 3
-    k reply 2 1 = 2
-    k reply 2 2 = 0
-    k reply 3 1 = 1
-    k reply 3 2 = 0
+    2..3: c close = *
+    k reply 2 1 = 2; k reply 2 2 = 0
+    k reply 3 1 = 1; k reply 3 2 = 0
 ";
 
 #[test]
@@ -74,14 +61,9 @@ fn running_threads_serve_themselves(rt: HostRuntime) -> Result<(), Fail> {
 }
 
 const HELD: &str = "
-    c fork a = 0; c fork b = 0; c fork k = 0
-    a start = 1
-    b start = 2
-
     # One thread is in native code, and one is blocked.
-    a call 0, a to_native, b to_vm, b block = 0
-    k target 1, k target 2 = 0
-    k submit depth, c open = 1
+    a start = 1; b start = 2; a call 0, a to_native, b to_vm, b block = 0
+    k submit depth of 1 2, c open = 1
     c serve 0, c serve 1 = Serve(NotHeld)
     c release 0, c release 1 = Release(NotHeld)
     c hold 0, c hold 1 = Hold(NotTold)
@@ -96,7 +78,7 @@ const HELD: &str = "
     a from_native = Again
     a state = 3
     a call 0, a exit, a publish = Illegal
-    k reply 1 1 = NotAnswered
+    k reply 1 1 = Pending
     c serve 0 = 1
     k reply 1 1 = 1
     c serve 0 = Serve(AlreadyDone)
@@ -138,28 +120,12 @@ fn held_threads_are_served_or_let_go(rt: HostRuntime) -> Result<(), Fail> {
 
 // Depth and frames of the two codes are 5, 1 and 3 for the first thread, and 7, 2 and 4 for the second.
 const FOUR: &str = "
-    c fork a = 0; c fork b = 0; c fork k = 0
-    k install 0 = 1
-    k install 1 = 2
-    a start = 1
-    a call 0 = 1
-    1..3: a call 1 = 2
-    a call 2, a to_native = 0
-    b start = 2
-    1..2: b call 0 = 1
-    1..4: b call 1 = 2
-    b call 2 = 0
+    k install 0 = 1; k install 1 = 2
+    a start = 1; a call 0 = 1; 1..3: a call 1 = 2; a call 2, a to_native = 0
+    b start = 2; 1..2: b call 0 = 1; 1..4: b call 1 = 2; b call 2 = 0
 
-    k target 1, k target 2 = 0
-    k submit depth = 1
-    k target 1 = 0
-    k submit count_of 1 = 2
-    k target 2 = 0
-    k submit count_of 1 = 3
-    k target 1 = 0
-    k submit count_of 2 = 4
-    k target 1 = 0
-    k submit top = 5
+    k submit depth of 1 2 = 1; k submit count_of 1 of 1 = 2; k submit count_of 1 of 2 = 3
+    k submit count_of 2 of 1 = 4; k submit top of 1 = 5
     1..4: c open = *
     c open_kind = 1
     c open = Open(AlreadyOpen)
@@ -176,7 +142,7 @@ const FOUR: &str = "
     c hold 0 = 1
     c serve 0 = 1
     k reply 1 1 = 5
-    k reply 2 1 = NotAnswered
+    k reply 2 1 = Pending
     c hold 0 = Hold(Held)
     c close, c close_of 2 = Close(Held)
     c close_of 3 = Close(NotDone)
@@ -204,11 +170,9 @@ const FOUR: &str = "
     c tell 2 = 3
     c tell 2 = Tell(AlreadyTold)
     b ret = 3
-    b stop_next = 1
-    b stop_serve = 3
+    b stop_next = 1; b stop_serve = 3
     b state = 2
-    b stop_next = 3
-    b stop_serve = 0
+    b stop_next = 3; b stop_serve = 0
     k reply 1 2 = 6
     k reply 3 2 = 2
     c close = 1
@@ -231,8 +195,6 @@ fn four_are_open_at_once(rt: HostRuntime) -> Result<(), Fail> {
 }
 
 const REFUSED: &str = "
-    c fork a = 0; c fork b = 0; c fork k = 0
-
     # No thread has started, and nothing is open.
     c open = Open(QueueEmpty)
     c tell 1 = Tell(NothingOpen)
@@ -252,8 +214,7 @@ const REFUSED: &str = "
 
     # The names of a request go with it, whatever it answers, and are those of its party alone.
     k submit depth = Ask(NoTargets)
-    k target 1, k target 1 = 0
-    k submit depth = Ask(BadTargets)
+    k submit depth of 1 1 = Ask(BadTargets)
     k submit depth = Ask(NoTargets)
     k target 1, k target 2 = 0
     a submit depth = Ask(NoTargets)
@@ -282,13 +243,9 @@ fn each_act_is_refused_in_its_order(rt: HostRuntime) -> Result<(), Fail> {
 
 // Names of threads that are gone, that were never given out, and that start after the Open.
 const GONE: &str = "
-    c fork a = 0; c fork b = 0; c fork d = 0; c fork k = 0
-    a start = 1
-    b start = 2
-    k target 1, k target 2 = 0
-    k submit depth = 1
-    1..4: k target * = 0
-    k submit depth = 2
+    c fork d = 0
+    a start = 1; b start = 2; k submit depth of 1 2 = 1
+    k submit depth of 1 2 3 4 = 2
 
     # A thread that was told something serves before it goes.
     c open, c tell 1, a exit = 1
@@ -305,8 +262,7 @@ const GONE: &str = "
 
     # The next has the place and not the name of the first. It is a target only of what is opened once it lives.
     c open = 2
-    d start = 3
-    d place = 0
+    d start = 3; d place = 0
     1..4: c tell * = 0
     c tell 5 = Tell(NotOf)
     c hold 0 = Hold(NotTold)
@@ -315,11 +271,8 @@ const GONE: &str = "
     c close = 2
     1..4: k reply 2 * = NotAnswered
     k live_after 0 = 3
-    k target 3 = 0
-    k submit depth, c open, c tell 3, d back_edge, d stop_next = 3
-    d stop_serve = 0
-    c close = 3
-    k reply 3 3 = 0
+    k submit depth of 3, c open, c tell 3, d back_edge, d stop_next = 3
+    d stop_serve = 0; c close = 3; k reply 3 3 = 0
 ";
 
 #[test]
@@ -328,14 +281,12 @@ fn a_name_that_is_gone_is_waited_for_by_nobody(rt: HostRuntime) -> Result<(), Fa
 }
 
 const QUEUE: &str = "
-    c fork k = 0
     1..64: k census = *
     k census = Ask(QueueFull)
 
     # That the queue is full is told first, and the names go.
     k submit depth = Ask(QueueFull)
-    k target 1 = 0
-    k submit depth = Ask(QueueFull)
+    k submit depth of 1 = Ask(QueueFull)
 
     # One that is open doesn't wait.
     c open = 1
@@ -355,7 +306,6 @@ fn sixty_four_requests_wait(rt: HostRuntime) -> Result<(), Fail> {
 
 // As many targets as a handshake can have, each a thread, and one more.
 const TARGETS: &str = "
-    c fork k = 0
     1..64: c fork * = 0
     c fork 65 = 0
     1..64: * start = *
@@ -372,8 +322,7 @@ const TARGETS: &str = "
     k live_after 63 = 64
     k live_after 64 = 0
     1..64: * exit = 0
-    65 start = 65
-    65 place = 0
+    65 start = 65; 65 place = 0
 ";
 
 #[test]
@@ -383,24 +332,13 @@ fn sixty_four_threads_answer(rt: HostRuntime) -> Result<(), Fail> {
 
 // Closed operations are forgotten if nothing older is open. What is open or waits isn't forgotten, and is answered and closed as before.
 const FORGOTTEN: &str = "
-    c fork a = 0; c fork b = 0; c fork k = 0
-    a start = 1
-    a call 0 = 0
-    k target 1 = 0
-    k submit depth = 1
-    k target 1 = 0
-    k submit depth = 2
-    k target 1 = 0
-    k submit depth = 3
-    k target 1 = 0
-    k submit depth = 4
+    a start = 1; a call 0 = 0
+    1..4: k submit depth of 1 = *
     1..3: c open = *
     1..3: c tell 1 = *
     a back_edge = 3
-    a stop_next = 1
-    a stop_serve = 3
-    a stop_next = 2
-    a stop_serve = 3
+    a stop_next = 1; a stop_serve = 3
+    a stop_next = 2; a stop_serve = 3
     c close = 1
     1..2: k reply * 1 = 1
     k forget = 0

@@ -4,8 +4,7 @@ use std::test::*;
 
 const ROLES: &str = "
     # Any party makes another.
-    c fork a = 0; c fork k = 0
-    a fork b = 0
+    c fork d = 0; d fork e = 0
 
     # A client is no thread.
     k call 0, k ret, k back_edge, k publish, k to_vm, k from_vm, k to_native, k from_native = NotThis
@@ -19,8 +18,7 @@ const ROLES: &str = "
     k open, k tell 1, k hold 0, k serve 0, k release 0, k operate, k close, k close_of 1, k weigh 1 = NotThis
 
     # A thread doesn't start again, and doesn't coordinate.
-    a start = 1
-    a start = NotThis
+    a start = 1; a start = NotThis
     a open, a tell 1, a hold 0, a serve 0, a release 0, a operate, a close, a close_of 1, a weigh 1 = NotThis
 
     # No census of theirs counted anything.
@@ -30,17 +28,15 @@ const ROLES: &str = "
     a install 0 = 1
     a invalidate 1 = 0
     a reclaim 1 = 0
-    a target 1 = 0
-    a submit depth = 1
-    a reply 1 1 = NotAnswered
+    a submit depth of 1 = 1
+    a reply 1 1 = Pending
     a live_after 0 = 1
     a open_kind, a forget = 0
     c install 1 = 2
     c invalidate 2 = 0
-    c target 1 = 0
-    c submit depth = 2
+    c submit depth of 1 = 2
     c reclaim 2 = Reclaim(AlreadyOpen)
-    c reply 2 1 = NotAnswered
+    c reply 2 1 = Pending
     c live_after 0 = 1
     c open_kind, c forget = 0
 
@@ -52,10 +48,8 @@ const ROLES: &str = "
     a census = 3
 
     # The system stays until its last party goes.
-    c free, k free, a free = 0
-    b start = 2
-    b place = 0
-    b exit = 0
+    c free, k free, a free, b free, d free = 0
+    e start = 2; e place, e exit = 0
 ";
 
 #[test]
@@ -64,9 +58,7 @@ fn each_party_does_what_it_may(rt: HostRuntime) -> Result<(), Fail> {
 }
 
 const FREED: &str = "
-    c fork a = 0; c fork b = 0; c fork k = 0
-    a start = 1
-    b start = 2
+    a start = 1; b start = 2
 
     # A thread that is let go without an exit leaves its place taken.
     a free = 0
@@ -75,12 +67,10 @@ const FREED: &str = "
 
     # A coordinator that is let go leaves held whom it holds.
     b to_native = 0
-    k target 2 = 0
-    k submit depth = 1
+    k submit depth of 2 = 1
     c open, c tell 2, c hold 1 = 1
     c free = 0
-    b from_native, b from_native = Again
-    b state = 3
+    b from_native, b from_native = Again; b state = 3
 ";
 
 #[test]

@@ -1,6 +1,7 @@
 //! The parties of a system play a text of rows. `test_support/src/rows.rt` defines a row. A call is a party, an act and its numbers; it
-//! answers a number or the fault: `c tell 1, c tell 2 = 3`. Parties have names: `c` is the coordinator, `c fork a` makes another party,
-//! and `a free` drops one. A row that begins with `while desk:` or `while room 0:` is played while that lock is taken.
+//! answers a number or the fault: `c tell 1, c tell 2 = 3`. `c` is the coordinator, and `a`, `b` and `k` are parties that it forked: the
+//! texts start `a` and `b` as threads. `c fork d` makes a further party, and `a free` drops one. `k submit depth of 1 2 = 3` names the
+//! targets 1 and 2, and then submits. A row that begins with `while desk:` or `while room 0:` is played while that lock is taken.
 ghost use Rattle.std.specs.Prelude.{◌≡◌};
 
 use crate::tests::host::Host;

@@ -3,9 +3,7 @@ use crate::tests::rows::play;
 use std::test::*;
 
 const STATES: &str = "
-    c fork a = 0; c fork k = 0
-    a start, a name = 1
-    a place = 0
+    a start, a name = 1; a place = 0
 
     # In Java.
     a state = 0
@@ -14,55 +12,41 @@ const STATES: &str = "
     a call 0, a publish, a back_edge, a ret, a publish = 0
 
     # In the VM it publishes, and neither calls nor polls.
-    a to_vm = 0
-    a state = 1
+    a to_vm = 0; a state = 1
     a call 0, a call 9, a ret, a back_edge, a to_vm, a from_native, a unblock, a stop_next, a stop_serve = Illegal
-    a publish = 0
-    a state = 1
+    a publish = 0; a state = 1
 
     # Blocked, and back into the VM.
-    a block = 0
-    a state = 4
+    a block = 0; a state = 4
     a call 0, a ret, a back_edge, a publish, a to_vm, a from_vm, a to_native, a from_native, a block = Illegal
     a stop_next, a stop_serve, a exit = Illegal
     a state = 4
-    a unblock = 0
-    a state = 1
+    a unblock = 0; a state = 1
 
     # In native code, from the VM and back there.
-    a to_native = 0
-    a state = 3
+    a to_native = 0; a state = 3
     a call 0, a ret, a back_edge, a publish, a to_vm, a from_vm, a to_native, a block, a unblock = Illegal
     a stop_next, a stop_serve, a exit = Illegal
     a state = 3
-    a from_native = 0
-    a state = 1
-    a from_vm = 0
-    a state = 0
+    a from_native = 0; a state = 1
+    a from_vm = 0; a state = 0
 
     # In native code, from Java and back there.
-    a to_native = 0
-    a state = 3
-    a from_native = 0
-    a state = 0
+    a to_native = 0; a state = 3
+    a from_native = 0; a state = 0
 
     # At a poll.
-    k target 1 = 0
-    k submit depth = 1
-    c open, c tell 1, a back_edge = 1
-    a state = 2
+    k submit depth of 1, c open, c tell 1, a back_edge = 1; a state = 2
     a call 0, a ret, a back_edge, a publish, a to_vm, a from_vm, a to_native, a from_native, a block, a unblock = Illegal
     a stop_serve, a exit = Illegal
     a state = 2
 
     # Serving.
-    a stop_next = 1
-    a state = 5
+    a stop_next = 1; a state = 5
     a call 0, a ret, a back_edge, a publish, a to_vm, a from_vm, a to_native, a from_native, a block, a unblock = Illegal
     a stop_next, a exit = Illegal
     a state = 5
-    a stop_serve = 0
-    a state = 0
+    a stop_serve = 0; a state = 0
     c close = 1
 
     # It exits from the VM too.
@@ -76,64 +60,47 @@ fn each_act_is_legal_in_its_states(rt: HostRuntime) -> Result<(), Fail> {
 
 // Each act that polls stops the thread if the poll is armed. After the stop the thread continues where the act leads.
 const POLLS: &str = "
-    c fork a = 0; c fork k = 0
     a start = 1
 
     # At a back edge, and at a return, of which the frame is gone.
-    k target 1 = 0
-    k submit depth, c open, c tell 1, a back_edge, a stop_next = 1
-    a stop_serve, a state = 0
-    c close = 1
+    k submit depth of 1, c open, c tell 1, a back_edge, a stop_next = 1
+    a stop_serve, a state = 0; c close = 1
     1..2: a call 0 = 0
-    k target 1 = 0
-    k submit depth, c open, c tell 1, a ret, a stop_next = 2
-    a stop_serve, a state = 0
-    c close = 2
+    k submit depth of 1, c open, c tell 1, a ret, a stop_next = 2
+    a stop_serve, a state = 0; c close = 2
     k reply 2 1 = 1
 
     # From the VM into Java.
-    a to_vm, k target 1 = 0
-    k submit depth, c open, c tell 1, a from_vm, a stop_next = 3
-    a stop_serve, a state = 0
-    c close = 3
+    a to_vm = 0
+    k submit depth of 1, c open, c tell 1, a from_vm, a stop_next = 3
+    a stop_serve, a state = 0; c close = 3
 
     # From native code into Java, and into the VM.
-    a to_native, k target 1 = 0
-    k submit depth, c open, c tell 1, a from_native, a stop_next = 4
-    a stop_serve, a state = 0
-    c close = 4
-    a to_vm, a to_native, k target 1 = 0
-    k submit depth, c open, c tell 1, a from_native, a stop_next = 5
-    a stop_serve = 0
-    a state = 1
-    c close = 5
+    a to_native = 0
+    k submit depth of 1, c open, c tell 1, a from_native, a stop_next = 4
+    a stop_serve, a state = 0; c close = 4
+    a to_vm, a to_native = 0
+    k submit depth of 1, c open, c tell 1, a from_native, a stop_next = 5
+    a stop_serve = 0; a state = 1; c close = 5
 
     # From a wait into the VM.
-    a block, k target 1 = 0
-    k submit depth, c open, c tell 1, a unblock, a stop_next = 6
-    a stop_serve = 0
-    a state = 1
-    c close = 6
+    a block = 0
+    k submit depth of 1, c open, c tell 1, a unblock, a stop_next = 6
+    a stop_serve = 0; a state = 1; c close = 6
 
     # At an exit, from Java and from the VM. A stack that isn't empty is refused first.
-    a from_vm, k target 1 = 0
-    k submit depth, c open, c tell 1 = 7
+    a from_vm = 0
+    k submit depth of 1, c open, c tell 1 = 7
     a exit = StackNotEmpty
     a ret, a stop_next = 7
-    a stop_serve = 0
-    c close = 7
-    k target 1 = 0
-    k submit depth, c open, c tell 1, a exit = 8
-    a state = 2
-    a stop_next = 8
-    a stop_serve, a state = 0
-    c close = 8
-    a to_vm, k target 1 = 0
-    k submit depth, c open, c tell 1, a exit, a stop_next = 9
-    a stop_serve, a state = 0
-    c close = 9
-    a exit = 0
-    k reply 9 1 = 0
+    a stop_serve = 0; c close = 7
+    k submit depth of 1, c open, c tell 1, a exit = 8
+    a state = 2; a stop_next = 8
+    a stop_serve, a state = 0; c close = 8
+    a to_vm = 0
+    k submit depth of 1, c open, c tell 1, a exit, a stop_next = 9
+    a stop_serve, a state = 0; c close = 9
+    a exit, k reply 9 1 = 0
 ";
 
 #[test]
@@ -142,9 +109,7 @@ fn each_poll_stops(rt: HostRuntime) -> Result<(), Fail> {
 }
 
 const DEPTH: &str = "
-    c fork a = 0; c fork k = 0
-    a start = 1
-    a ret = EmptyStack
+    a start = 1; a ret = EmptyStack
     a call 1, a call 256 = NoSuchMethod
     k install 0 = 1
     1..256: a call 0 = 1
@@ -155,10 +120,8 @@ const DEPTH: &str = "
     a exit = StackNotEmpty
 
     # All frames are there.
-    k target 1 = 0
-    k submit depth = 1
-    k target 1 = 0
-    k submit count_of 1 = 2
+    k submit depth of 1 = 1
+    k submit count_of 1 of 1 = 2
     1..2: c open = *
     1..2: c tell 1 = *
     a back_edge = 2

@@ -165,18 +165,18 @@ const OF_ONE_SLOT: [(&str, &str); 6] = [
     TWO_THREADS,
 ];
 
+const OF_ONE_PLACE: [(&str, &str); 3] = [
+    TWO_OPERATIONS_IN_TURN,
+    A_GREATER_NUMBER_STAYS,
+    PLACE_USED_AGAIN,
+];
+
 #[test]
 fn boards_say_what_the_core_answers(rt: HostRuntime) -> Result<(), Fail> {
     assert_all_play(&rt, rt.alloc(), 2, 1, &OF_ONE_SLOT)?;
     assert_all_play(&rt, rt.alloc(), 1, 4, &[RECLAIMED_AFTER_USE])?;
     Ok(())
 }
-
-const OF_ONE_PLACE: [(&str, &str); 3] = [
-    TWO_OPERATIONS_IN_TURN,
-    A_GREATER_NUMBER_STAYS,
-    PLACE_USED_AGAIN,
-];
 
 #[test]
 fn poll_words_say_what_the_core_answers(rt: HostRuntime) -> Result<(), Fail> {

@@ -1,4 +1,4 @@
--- What stays is moved to the front, and is the first of what is there then.
+-- The remaining items are moved to the front, and the list is cut after them.
 use Rattle.std.proofs.Common.{◌≡◌, ◌∙◌, ◌+◌, ◌-◌, ◌≤◌, ℕ, sym, ap, length, take, drop, arith, rules}
 use Rattle.std.specs.Prelude.{vec_len}
 use Rattle.std.specs.List.{copy_within}

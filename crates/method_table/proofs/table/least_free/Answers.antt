@@ -1,4 +1,4 @@
--- The search goes past taken slots alone.
+-- The search skips taken slots only.
 use Rattle.std.proofs.Common.{◌≡◌, ℕ, ◌<◌, Bool, true, not, sym, arith, refl, inl, inr, ◌∙◌, length, List, get_or}
 use Rattle.std.specs.Prelude.{slice_get}
 use Rattle.std.proofs.lemmas.Bool.{cases_eq}

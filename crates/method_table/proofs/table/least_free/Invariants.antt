@@ -1,4 +1,4 @@
--- No slot that the search went past is free.
+-- All slots before the search's position are taken.
 use Rattle.std.proofs.Common.{◌≡◌, ℕ, ◌<◌, true}
 use Rattle.std.specs.Prelude.{slice_get}
 use Rattle.method_table.specs.Kept.{holds}

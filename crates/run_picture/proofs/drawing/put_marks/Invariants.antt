@@ -4,4 +4,4 @@ use Rattle.run_picture.specs.Drawn.{AddsMarks}
 use Rattle.run_picture.proofs.drawing.put_marks.Given as goal
 
 abbrev pub invariant-loop-mark : goal.invariant-loop-mark
-invariant-loop-mark l = AddsMarks (shown_by (take l.mark-index l.marks)) l.fn.text.items l.text.items
+invariant-loop-mark l = AddsMarks (shown_by (take l.mark-index l.marks)) l.fn.canvas.text.items l.canvas.text.items

@@ -1,4 +1,4 @@
--- By the cases of the event in a world that events lead to.
+-- By the cases of the event in a reachable world.
 use Rattle.system.proofs.Safely as law
 use Rattle.system.proofs.laws.censuses_at_safepoints.Goals as goal
 

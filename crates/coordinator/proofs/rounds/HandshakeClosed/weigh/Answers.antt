@@ -7,7 +7,7 @@ use Rattle.stopped_threads.specs.Reclaiming.{IsReclaimedFrom}
 use Rattle.coordinator.specs.Rounds.{Shaking, IsOver, IsReclaimedBehind}
 use Rattle.coordinator.proofs.rounds.HandshakeClosed.weigh.Goals as goal
 
--- what was weighed at a desk where the handshake was closed
+-- the weighing at a desk at which the handshake was closed
 behind : {N : Type 0} (asked : Option (ℕ × Stands)) (desk : DeskSeen) (places serial : ℕ) (r : Option (Reclaimed N)) → IsOver asked desk
     → IfSome r (IsReclaimedFrom desk places serial) → IfSome r (IsReclaimedBehind asked places serial)
 behind asked desk places serial None over from = tt

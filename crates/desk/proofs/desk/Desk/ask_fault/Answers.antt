@@ -11,7 +11,7 @@ use Rattle.desk.specs.Refusals.{ask_refused, ask_refused_if}
 use Rattle.desk.specs.JobsFit.{jobs_fit, request_of}
 use Rattle.desk.proofs.desk.Desk.ask_fault.Goals as goal
 
--- what refuses any request of this kind refuses that of the jobs
+-- a refusal of every request of this kind also refuses that of the jobs
 refused_of : {J : Type 0} (whom : J → ℕ) (asks : J → Ask) (jobs : List J) (s : State) (b : Book) (fault : AskFault) (good : Bool)
     → 0 < length jobs
     → IfSome (request_of whom asks jobs) (λ asked. good ≡ (are_targets asked && jobs_fit whom asks asked jobs))

@@ -1,4 +1,4 @@
--- `then` picks the entries with the one more. Assumes `Logic`.
+-- `then` picks the entries with one more. Assumes `Logic`.
 use Rattle.std.proofs.Common.{List, [], ◌∷◌, ◌++◌, refl}
 use seplogic.Ra.Ura.{Ura}
 use mir.Syntax.{Fn}

@@ -7,7 +7,7 @@ use Rattle.desk.specs.Names.{NamesSeen}
 use Rattle.desk.proofs.Distinct.{one_off}
 use Rattle.desk.proofs.names.Awaited.take_off.Goals as goal
 
--- Where the name is the first, those behind it are the others.
+-- If the name is the first, the others follow it.
 pub returns-in-Some : goal.returns-in-Some
 returns-in-Some c =
     let behind : List ℕ = drop c.self.inside.gone c.self.inside.later.items in

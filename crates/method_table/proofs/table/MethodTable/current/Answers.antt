@@ -1,4 +1,4 @@
--- The entry of the method is its code in use.
+-- The method's entry is its code in use.
 use Rattle.std.proofs.Common.{◌≡◌, ap, rules, refl}
 use Rattle.std.proofs.lemmas.Option.{slice_get_read}
 use Rattle.method_table.specs.TableView.{TableView}

@@ -1,4 +1,4 @@
--- A method's current code lets it in.
+-- A method's current code admits the method.
 use Rattle.std.proofs.Common.{◌≡◌, ap}
 use Rattle.method_table.specs.TableView.{TableView}
 use Rattle.method_table.proofs.KeptLemmas.{entry_current}

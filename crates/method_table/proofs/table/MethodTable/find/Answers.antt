@@ -1,4 +1,4 @@
--- The record of the guessed slot, where it is that of the code that is looked for.
+-- The guessed slot's record is the result if it has the serial.
 use Rattle.std.proofs.Common.{◌≡◌, ◌<◌, ◌∙◌, ap, sym, refl, length, rules}
 use Rattle.std.proofs.lemmas.Option.{slice_get_read}
 use Rattle.method_table.specs.Codes.{unfreed}

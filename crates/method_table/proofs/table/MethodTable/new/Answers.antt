@@ -1,4 +1,4 @@
--- An empty table keeps nothing.
+-- An empty table has no codes.
 use Rattle.std.proofs.Common.{◌≡◌, ℕ, None, refl, rules}
 use Rattle.method_table.specs.Slots.{slot_in}
 use Rattle.method_table.proofs.KeptLemmas.{empty_kept}

@@ -1,4 +1,4 @@
--- A noted slot has the record of the serial's unfreed code.
+-- An indexed slot has the record of the serial's unfreed code.
 use Rattle.std.proofs.Common.{◌≡◌, None, Some, ap, sym, refl, rules}
 use Rattle.std.proofs.lemmas.Option.{slice_get_read}
 use Rattle.method_table.specs.Slots.{slot_in}

@@ -1,4 +1,4 @@
--- A freed code sends the call away, and any other code says where the call leads.
+-- A freed code redirects the call. For any other code its state decides.
 use Rattle.std.proofs.Common.{◌≡◌, None, ap, sym}
 use Rattle.method_table.specs.declared.Code.{Code}
 use Rattle.method_table.specs.Codes.{code_of, unfreed}

@@ -1,4 +1,4 @@
--- The code of the serial comes into its new state, and the fields with it.
+-- The code and the fields change together.
 use Rattle.std.proofs.Common.{◌≡◌, Some, ap, sym, ◌∙◌, refl}
 use Rattle.method_table.specs.declared.CodeState.TheVariants.{Zombie}
 use Rattle.method_table.specs.Codes.{unfreed}

@@ -1,4 +1,4 @@
--- The first test that fails is the first reason, and a slot that is found is the least free one.
+-- The first failed test is the first reason, and the slot found is the least free one.
 use Rattle.std.proofs.Common.{◌≡◌, ◌<◌, Some, None, ap, sym, ◌∙◌, rules, List, length}
 use Rattle.method_table.specs.declared.Code.{Code}
 use Rattle.method_table.specs.Kept.{least_free}

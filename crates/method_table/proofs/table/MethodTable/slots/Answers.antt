@@ -1,4 +1,4 @@
--- What every table keeps follows from how its fields stand for its codes.
+-- The fields of a table give `IsTable`.
 use Rattle.method_table.proofs.KeptLemmas.{table_is}
 use Rattle.method_table.proofs.table.MethodTable.slots.Goals as goal
 

@@ -1,4 +1,4 @@
--- A serial that was given out and has no unfreed code is of a freed one.
+-- A serial that was given out and has no unfreed code is a freed code's.
 use Rattle.std.proofs.Common.{◌≡◌, None, ap, sym, inl, inr, refl, arith}
 use Rattle.method_table.specs.Codes.{unfreed}
 use Rattle.method_table.specs.TableView.{TableView}

@@ -1,4 +1,4 @@
--- `dispatch` lends the party where it lies, under the name that the handle's board and row pick, and takes it back.
+-- `dispatch` borrows the party in place, at the name of a board and a row, and gives it back.
 use Rattle.std.proofs.Common.{◌≡◌, ℕ, List, [], ◌∷◌, ◌++◌, refl, sym, ap, subst}
 use Rattle.std.specs.Prelude.{Option, Some, is_some, true}
 use seplogic.Ra.Ura.{Ura}

@@ -1,4 +1,4 @@
--- `fork`, as the generic one under the name that a board and a row pick.
+-- `fork` is the generic function at the name of a board and a row.
 use denote.Param.{layout}
 use Rattle.std.proofs.Common.{◌∙◌, ◌≡◌, List, [], ◌∷◌, ◌++◌, refl, sym, ap, subst}
 use Rattle.std.specs.Prelude.{is_some, true}

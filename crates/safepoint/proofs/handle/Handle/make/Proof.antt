@@ -1,4 +1,4 @@
--- `make`, as the generic one under the name that a board and a row pick.
+-- `make` is the generic function at the name of a board and a row.
 use denote.Param.{layout}
 use Rattle.std.proofs.Common.{◌∙◌, ◌≡◌, List, [], ◌∷◌, ◌++◌, refl, sym, ap, subst}
 use seplogic.Ra.Ura.{Ura}

@@ -1,4 +1,4 @@
--- `none`, as the generic one under the name that a board and a row pick.
+-- `none` is the generic function at the name of a board and a row.
 use Rattle.std.proofs.Common.{List, [], ◌∷◌, ◌++◌, refl, sym, subst}
 use Rattle.std.specs.Prelude.{None}
 use seplogic.Ra.Ura.{Ura}

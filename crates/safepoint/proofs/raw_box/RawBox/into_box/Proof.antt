@@ -1,4 +1,4 @@
--- `into_box` makes the box again.
+-- `into_box` makes a box of its pointer again.
 use Rattle.std.proofs.Common.{◌≡◌, ◌∙◌, List, [], ◌∷◌, ◌++◌, refl, sym, ap, subst}
 use Rattle.std.specs.Prelude.{Option, Some, is_some, true}
 use Rattle.std_alloc.specs.Box.Ownership.{box_owns}

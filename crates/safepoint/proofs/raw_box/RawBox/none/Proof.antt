@@ -1,4 +1,4 @@
--- `none` makes none.
+-- `none` makes no box.
 use Rattle.std.proofs.Common.{◌≡◌, List, [], ◌∷◌, ◌++◌, refl, sym, subst}
 use mir.Syntax.{a_type, dcons, dnil}
 use Rattle.std.specs.Prelude.{Option, None}
