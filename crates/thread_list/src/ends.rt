@@ -201,9 +201,10 @@ impl<N: Name> RunningThread<N> {
         }
     }
 
-    // How many frames the thread's stack has, or 0 where the thread doesn't have its body.
-    pub(crate) fn depth(&self) -> usize
+    /// Returns how many frames the thread's stack has, 0 if the thread doesn't have its body.
+    pub fn depth(&self) -> usize
         ensures deep { (b : _) → self.now.body ≡ Some b → result ≡ length b.image.frames }
+        ensures away { self.now.body ≡ None → result ≡ 0 }
     {
         match &self.body_state {
             BodyState::InJava(body) => body.depth(),
