@@ -46,7 +46,7 @@ def words(lines, column):
 def row_of(lines):
     first = lines[0]
     filled = {column: tuple(it[column] for it in lines if it[column]) for column in ("after", "returns")}
-    return Row(first["call"], first["by"], words(lines[:1], "before"), **filled, refusals=words(lines, "refusals"))
+    return Row(first["call"], first["by"], words(lines, "before"), **filled, refusals=words(lines, "refusals"))
 
 
 def table(text):

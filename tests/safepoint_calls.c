@@ -80,6 +80,8 @@ static void no_party_does_nothing(void) {
     IS(sp_called_operation(&none), SP_NOT_THIS);
     IS(sp_called_place(&none), SP_NOT_THIS);
     IS(sp_awaited(&none), SP_NOT_THIS);
+    IS(sp_awaited_after(&none, 0), SP_NOT_THIS);
+    IS(sp_awaited_place(&none, 0), SP_NOT_THIS);
     sp_free(&none);
     IS(none.made, 0);
 }
@@ -115,10 +117,13 @@ static void another_part_is_refused(void) {
     IS(sp_name(&a), SP_NOT_THIS);
     IS(sp_place(&a), SP_NOT_THIS);
     IS(sp_state(&a), SP_NOT_THIS);
+    IS(sp_depth(&a), SP_NOT_THIS);
     IS(sp_advance(&a), SP_NOT_THIS);
     IS(sp_called_operation(&a), 0);
     IS(sp_called_place(&a), 0);
     IS(sp_awaited(&a), 0);
+    IS(sp_awaited_after(&a, 0), 0);
+    IS(sp_awaited_place(&a, 0), 0);
     IS(sp_open(&a), SP_NOT_THIS);
     IS(sp_tell(&a, 1), SP_NOT_THIS);
     IS(sp_hold(&a, 0), SP_NOT_THIS);
@@ -153,6 +158,7 @@ static void a_thread_goes_through_its_states(void) {
     IS(sp_exit(&a), SP_STACK_NOT_EMPTY);
     for (int depth = 1; depth < 256; depth++) IS(sp_call(&a, 1), 0);
     IS(sp_call(&a, 1), SP_DEPTH_FULL);
+    IS(sp_depth(&a), 256);
     for (int depth = 0; depth < 256; depth++) IS(sp_ret(&a), 0);
     IS(sp_publish(&a), 0);
     IS(sp_from_vm(&a), SP_ILLEGAL);
@@ -162,6 +168,7 @@ static void a_thread_goes_through_its_states(void) {
     IS(sp_stop_serve(&a), SP_ILLEGAL);
     IS(sp_to_vm(&a), 0);
     IS(sp_state(&a), SP_IN_VM);
+    IS(sp_depth(&a), 0);
     IS(sp_publish(&a), 0);
     IS(sp_to_vm(&a), SP_ILLEGAL);
     IS(sp_call(&a, 0), SP_ILLEGAL);
@@ -170,6 +177,7 @@ static void a_thread_goes_through_its_states(void) {
     IS(sp_unblock(&a), SP_ILLEGAL);
     IS(sp_block(&a), 0);
     IS(sp_state(&a), SP_BLOCKED);
+    IS(sp_depth(&a), SP_ILLEGAL);
     IS(sp_publish(&a), SP_ILLEGAL);
     IS(sp_exit(&a), SP_ILLEGAL);
     IS(sp_unblock(&a), 0);
@@ -396,8 +404,10 @@ static void a_code_is_reclaimed(void) {
 static void threads_exit(void) {
     IS(sp_ret(&a), 0);
     IS(sp_ret(&a), 0);
+    IS(sp_depth(&a), 0);
     IS(sp_exit(&a), 0);
     IS(sp_exit(&a), SP_NOT_THIS);
+    IS(sp_back_edge(&a), SP_NOT_THIS);
     IS(sp_hold(&c, 0), SP_VACANT);
     IS(sp_serve(&c, 0), SP_VACANT);
     IS(sp_release(&c, 0), SP_VACANT);
@@ -414,8 +424,11 @@ static void threads_exit(void) {
     IS(sp_close(&c), 9);
     IS(sp_stop_next(&b), 0);
     IS(sp_exit(&b), 0);
+    IS(sp_start(&b), 3);
+    IS(sp_place(&b), 0);
+    IS(sp_exit(&b), 0);
     IS(sp_fork(&d, &a), 0);
-    IS(sp_start(&a), 3);
+    IS(sp_start(&a), 4);
     IS(sp_place(&a), 0);
 }
 
@@ -485,6 +498,9 @@ static void a_busy_thread_is_awaited(void) {
     AWAITS(&k, 1);
     IS(sp_from_native(&t), 0);
     AWAITS(&k, 1);
+    IS(sp_awaited_after(&k, 0), 1);
+    IS(sp_awaited_place(&k, 0), 0);
+    IS(sp_awaited_after(&k, 1), 0);
     no_lock_is_taken(SP_HANDSHAKE);
     serve_itself(&s, 1);
     ADVANCES(&k, 1);
@@ -512,6 +528,8 @@ static void a_census_is_advanced(void) {
     IS(sp_to_native(&t), 0);
     IS(sp_census(&k), 1);
     AWAITS(&k, 1);
+    IS(sp_awaited_after(&k, 0), 1);
+    IS(sp_awaited_after(&k, 1), 0);
     IS(sp_called_operation(&k), 0);
     IS(sp_from_native(&t), SP_AGAIN);
     IS(sp_back_edge(&s), 1);

@@ -82,6 +82,7 @@ BODY(exit, sp_exit(at))
 BODY(name, sp_name(at))
 BODY(place, sp_place(at))
 BODY(state, sp_state(at))
+BODY(depth, sp_depth(at))
 BODY(call, sp_call(at, (uint32_t)n))
 BODY(ret, sp_ret(at))
 BODY(back_edge, sp_back_edge(at))
@@ -109,6 +110,8 @@ BODY(advance, sp_advance(at))
 BODY(called_operation, sp_called_operation(at))
 BODY(called_place, sp_called_place(at))
 BODY(awaited, sp_awaited(at))
+BODY(awaited_after, sp_awaited_after(at, n))
+BODY(awaited_place, sp_awaited_place(at, n))
 BODY(open, sp_open(at))
 BODY(tell, sp_tell(at, n))
 BODY(hold, sp_hold(at, n))
@@ -196,6 +199,9 @@ static void by_advancing(void) {
     }
     ON(advance, &coordinator, 0, SP_AWAITS);
     ON(awaited, &coordinator, 0, 1);
+    ON(awaited_after, &coordinator, 0, 1);
+    ON(awaited_place, &coordinator, 0, 0);
+    ON(depth, &threads[0], 0, 0);
     ON(to_native, &threads[0], 0, 0);
     ON(advance, &coordinator, 0, SP_RUN);
     ON(advance, &coordinator, 0, 4);

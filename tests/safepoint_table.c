@@ -24,6 +24,7 @@ static void must(int line, int64_t answer) {
 /* Each call, with numbers of which nothing is. */
 #define CALLS(of)                                                                                                      \
     of(start, sp_start(p)) of(exit, sp_exit(p)) of(name, sp_name(p)) of(place, sp_place(p)) of(state, sp_state(p))     \
+    of(depth, sp_depth(p))                                                                                             \
     of(call, sp_call(p, 0)) of(ret, sp_ret(p)) of(back_edge, sp_back_edge(p)) of(publish, sp_publish(p))               \
     of(to_vm, sp_to_vm(p)) of(from_vm, sp_from_vm(p)) of(to_native, sp_to_native(p))                                   \
     of(from_native, sp_from_native(p)) of(block, sp_block(p)) of(unblock, sp_unblock(p))                               \
@@ -32,6 +33,7 @@ static void must(int line, int64_t answer) {
     of(invalidate, sp_invalidate(p, 9)) of(reply, sp_reply(p, 9, 9)) of(live_after, sp_live_after(p, 0))               \
     of(open_kind, sp_open_kind(p)) of(pending, sp_pending(p)) of(forget, sp_forget(p)) of(advance, sp_advance(p))                                 \
     of(called_operation, sp_called_operation(p)) of(called_place, sp_called_place(p)) of(awaited, sp_awaited(p))       \
+    of(awaited_after, sp_awaited_after(p, 0)) of(awaited_place, sp_awaited_place(p, 0))                                \
     of(open, sp_open(p)) of(tell, sp_tell(p, 9)) of(hold, sp_hold(p, 9)) of(serve, sp_serve(p, 9))                     \
     of(release, sp_release(p, 9)) of(operate, sp_operate(p)) of(counted, sp_counted(p, 9)) of(close, sp_close(p))      \
     of(close_of, sp_close_of(p, 9)) of(reclaim_begin, sp_reclaim_begin(p, 9))                                          \
@@ -127,7 +129,7 @@ static const struct {
     {"serving", "Java", "no", to_serve},
     {"serving", "VM", "no", to_serve_of_vm},
 };
-enum { STATES = sizeof states / sizeof *states, OF_THREAD = 16 };
+enum { STATES = sizeof states / sizeof *states, OF_THREAD = 17 };
 
 static const char *state_now(void) {
     static const char *const names[] = {"Java", "VM", "poll", "native", "blocked", "serving"};

@@ -65,6 +65,8 @@ extern "C" {
     pub fn sp_called_operation(coordinator: *mut Party) -> i64;
     pub fn sp_called_place(coordinator: *mut Party) -> i64;
     pub fn sp_awaited(coordinator: *mut Party) -> i64;
+    pub fn sp_awaited_after(coordinator: *mut Party, name: u64) -> i64;
+    pub fn sp_awaited_place(coordinator: *mut Party, name: u64) -> i64;
     pub fn sp_counted(coordinator: *mut Party, serial: u64) -> i64;
     pub fn sp_reclaim_begin(party: *mut Party, serial: u64) -> i64;
     pub fn sp_reclaim_end(coordinator: *mut Party, serial: u64) -> i64;

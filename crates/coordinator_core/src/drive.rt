@@ -144,6 +144,13 @@ impl<J: HandshakeOp> Drive<J> {
         self.awaited
     }
 
+    /// Returns the due threads of this pass.
+    pub fn due(&self) -> &[Live]
+        ensures { result.now ≡ self.now.due }
+    {
+        self.due.as_slice()
+    }
+
     /// Returns how many threads haven't come in this pass so far.
     pub fn late(&self) -> usize
         ensures { result ≡ self.now.late }

@@ -13,17 +13,15 @@ use Rattle.parties.specs.declared.party.Role.{Role}
 use Rattle.parties.specs.declared.party.Role.TheVariants as role
 
 pub exits_on : {N : Type 0} (r : Running) (m : Moved) (said : Told) (new : Role N) → GivesUp r m → Exits (role.Leaves m) said new → Exits (role.Runs r) said new
-exits_on r m (Ok n) role.Shares gives did = absurd did
+exits_on r m (Ok n) role.Shares gives did = (did.0, (m, gives, did.1))
 exits_on r m (Ok n) (role.Starts e) gives did = absurd did
 exits_on r m (Ok n) (role.Runs x) gives did = absurd did
 exits_on r m (Ok n) (role.Leaves m') gives did = absurd did
-exits_on r m (Ok n) role.Gone gives did = (did.0, (m, gives, did.1))
 exits_on r m (Ok n) (role.Coordinates h) gives did = absurd did
 exits_on r m (Err f) role.Shares gives did = absurd did
 exits_on r m (Err f) (role.Starts e) gives did = absurd did
 exits_on r m (Err f) (role.Runs x) gives did = absurd did
 exits_on r m (Err f) (role.Leaves m') gives did = (did.0, subst (GivesUp r) (sym did.1) gives)
-exits_on r m (Err f) role.Gone gives did = absurd did
 exits_on r m (Err f) (role.Coordinates h) gives did = absurd did
 
 pub exit_on : {N : Type 0} (old mid new : PartySeen N) (r : Running) (m : Moved) (said : Told) → old.role ≡ role.Runs r → mid ≡ record old { role = role.Leaves m }

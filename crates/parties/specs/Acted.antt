@@ -1,5 +1,5 @@
 -- The results of a party's acts.
-use Rattle.std.specs.Prelude.{◌≡◌, ◌≢◌, ◌⊎◌, ◌++◌, ◌∷◌, [], ℕ, List, true, false, Ok, Err, Option, Some, None}
+use Rattle.std.specs.Prelude.{◌≡◌, ◌≢◌, ◌⊎◌, ◌&&◌, ◌++◌, ◌∷◌, [], ℕ, Bool, List, true, false, not, length, nat_lt, if◌then◌else◌, Ok, Err, Option, Some, None}
 use Rattle.thread_state.specs.declared.State.{State}
 use Rattle.thread_state.specs.declared.State.TheVariants.{InJava, InVm, AtPoll, InNative, Blocked, NativeTrans, BlockedTrans, Serving}
 use Rattle.thread_state.specs.declared.Back.{Back}
@@ -23,7 +23,9 @@ use Rattle.thread_list.specs.Rooms.{StaysStopped}
 use Rattle.thread_list.specs.Refused.{HasFrames, PollsOn}
 use Rattle.thread_list.specs.Refused.{call_accepted, call_refused, return_refused}
 use Rattle.desk.specs.Finishing.{FinishSeen}
+use Rattle.stopped_threads.specs.Held.{is_held}
 use Rattle.stopped_threads.specs.Holding.{Holding}
+use Rattle.desk.specs.declared.entries.Live.{Live}
 use Rattle.desk.specs.declared.entries.Entry.{Entry}
 use Rattle.desk.specs.Fields.{DeskSeen, at}
 use Rattle.desk.specs.Refusals.{start_refused}
@@ -52,7 +54,6 @@ IsRole role.Shares = Unit {0}
 IsRole (role.Starts e) = Unit {0}
 IsRole (role.Runs r) = Unit {0}
 IsRole (role.Leaves m) = m.act ≡ moved.Vacated
-IsRole role.Gone = Unit {0}
 IsRole (role.Coordinates c) = Unit {0}
 
 -- A party as contracts see it: its role, the targets of its next request, the counts of its last census as serials with
@@ -196,14 +197,14 @@ Starts places (role.Starts e) said (role.Starts e') = (said ≡ Err fault.Again)
 Starts places (role.Starts e) said new = ⊥
 Starts places old said new = (said ≡ Err fault.NotThis) × (new ≡ old)
 
--- An exit of a thread: the thread exited; or its place is given up, without an Exit yet; or it continues.
+-- An exit of a thread: the thread exited, and the party is a client; or its place is given up, without an Exit yet; or it continues.
 abbrev pub Exits : {N : Type 0} → Role N → Told → Role N → Type 0
-Exits (role.Runs old) (Ok n) role.Gone = (n ≡ 0) × ((m : Moved) × GivesUp old m × WasEntered (Entry.Exit m.body.name))
+Exits (role.Runs old) (Ok n) role.Shares = (n ≡ 0) × ((m : Moved) × GivesUp old m × WasEntered (Entry.Exit m.body.name))
 Exits (role.Runs old) (Ok n) (role.Runs new) = StaysOn old (Ok n) new
 Exits (role.Runs old) (Err e) (role.Leaves m) = (e ≡ fault.Again) × GivesUp old m
 Exits (role.Runs old) (Err e) (role.Runs new) = StaysOn old (Err e) new
 Exits (role.Runs old) said new = ⊥
-Exits (role.Leaves m) (Ok n) role.Gone = (n ≡ 0) × WasEntered (Entry.Exit m.body.name)
+Exits (role.Leaves m) (Ok n) role.Shares = (n ≡ 0) × WasEntered (Entry.Exit m.body.name)
 Exits (role.Leaves m) (Err e) (role.Leaves m') = (e ≡ fault.Again) × (m' ≡ m)
 Exits (role.Leaves m) said new = ⊥
 Exits old said new = (said ≡ Err fault.NotThis) × (new ≡ old)
@@ -220,6 +221,19 @@ code_of s = 6
 
 abbrev pub Tells : (Running → ℕ) → Running → Told → Running → Type 0
 Tells what old said new = (said ≡ Ok (what old)) × (new ≡ old)
+
+-- A thread in this state has its stack, and no poll has stopped it.
+abbrev pub has_stack : State → Bool
+has_stack InJava = true
+has_stack InVm = true
+has_stack (Serving back) = true
+has_stack s = false
+
+-- How many frames the thread's stack has.
+abbrev pub Deep : Running → Told → Running → Type 0
+Deep old (Ok n) new = (has_stack old.state ≡ true) × ((b : BodyView) → old.body ≡ Some b → n ≡ length b.image.frames) × (new ≡ old)
+Deep old (Err fault.Illegal) new = (has_stack old.state ≡ false) × (new ≡ old)
+Deep old (Err e) new = ⊥
 
 -- An act of the coordinator.
 abbrev pub OfCoordinator : {N : Type 0} → (Holding → Told → Holding → Type 0) → Role N → Told → Role N → Type 0
@@ -293,6 +307,23 @@ place_of called = 0
 abbrev pub Shows : {N : Type 0} → (DriveSeen → ℕ) → PartySeen N → Told → PartySeen N → Type 0
 Shows what old said new = (said ≡ Ok (what old.drive)) × (new ≡ old)
 
+-- The first due thread with a greater name that isn't held.
+abbrev pub awaited_after : List BodyView → (name : ℕ) → List Live → Option Live
+awaited_after held name [] = None
+awaited_after held name (l ∷ ls) = if nat_lt name l.name && not (is_held l.place held) then Some l else awaited_after held name ls
+
+-- The work of a coordinator waits for the due threads that it doesn't hold.
+abbrev pub awaited_of : {N : Type 0} → Role N → (name : ℕ) → List Live → Option Live
+awaited_of (role.Coordinates holding) name due = awaited_after holding.held name due
+awaited_of r name due = None
+
+abbrev pub number_or_zero : (Live → ℕ) → Option Live → ℕ
+number_or_zero what None = 0
+number_or_zero what (Some l) = what l
+
+abbrev pub ShowsAwaited : {N : Type 0} → (Live → ℕ) → (name : ℕ) → PartySeen N → Told → PartySeen N → Type 0
+ShowsAwaited what name old said new = (said ≡ Ok (number_or_zero what (awaited_of old.role name old.drive.due))) × (new ≡ old)
+
 abbrev pub Acts : {N : Type 0} → ℕ → PartySeen N → Act → Told → PartySeen N → Type 0
 Acts places old act.Start said new = ActsAs (Starts places) old said new
 Acts places old (act.Call method) said new = ActsAs (OfThread (CallsIn method)) old said new
@@ -310,6 +341,7 @@ Acts places old act.StopServe said new = ActsAs (OfThread Serves) old said new
 Acts places old act.Exit said new = ActsAs Exits old said new
 Acts places old act.Name said new = ActsAs (OfThread (Tells (λ r. r.name))) old said new
 Acts places old act.Place said new = ActsAs (OfThread (Tells (λ r. r.place))) old said new
+Acts places old act.Depth said new = ActsAs (OfThread Deep) old said new
 Acts places old act.State said new = ActsAs (OfThread (Tells (λ r. code_of r.state))) old said new
 Acts places old (act.Target name) said new = Notes name old said new
 Acts places old act.TargetAll said new = NotesAll old said new
@@ -331,6 +363,8 @@ Acts places old (act.Counted serial) said new = Counts serial old said new
 Acts {N} places old act.Advance said new = Advancing old said new
 Acts places old act.CalledOperation said new = Shows (λ d. operation_of d.called) old said new
 Acts places old act.CalledPlace said new = Shows (λ d. place_of d.called) old said new
+Acts places old (act.AwaitedAfter name) said new = ShowsAwaited (λ l. l.name) name old said new
+Acts places old (act.AwaitedPlace name) said new = ShowsAwaited (λ l. l.place) name old said new
 Acts places old act.Awaited said new = Shows (λ d. d.awaited) old said new
 Acts places old (act.Close number) said new = ActsAs (OfCoordinator (coordinated.Closes number)) old said new
 Acts places old (act.Reclaim serial) said new = AsksWith (Begins serial) old said new

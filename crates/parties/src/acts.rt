@@ -28,6 +28,8 @@ pub enum Act {
     Name,
     Place,
     State,
+    /// How many frames the thread's stack has.
+    Depth,
     /// Adds the name to the targets of the next request.
     Target(u64),
     /// Makes all threads that are live at the Submit the targets of the next request.
@@ -65,6 +67,10 @@ pub enum Act {
     CalledPlace,
     /// How many threads the work waits for.
     Awaited,
+    /// The least name above this one of a thread that the work waits for, 0 without one.
+    AwaitedAfter(u64),
+    /// The place of that thread, 0 without one.
+    AwaitedPlace(u64),
     /// The first step of reclaiming a code: makes a round, and queues a handshake of the targets if there are any.
     Reclaim(u64),
     /// The last step: weighs the code, and frees it if it has no activation.

@@ -6,6 +6,7 @@
 
 pub mod acts;
 mod asking;
+mod awaited;
 mod coordinating;
 mod crosses;
 mod crossing;

@@ -17,7 +17,7 @@ use thread_list::{Entered, RunningThread};
 /// The role of a party.
 #[derive(Drop)]
 pub enum Role<N: Name> {
-    /// A client, which only shares the system.
+    /// A client, which only shares the system. So is a thread that exited.
     Shares,
     /// A thread whose Start is entered.
     Starts(Entered<N>),
@@ -25,8 +25,6 @@ pub enum Role<N: Name> {
     Runs(RunningThread<N>),
     /// A thread that gave up its place, and whose Exit isn't entered.
     Leaves(BodyReceipt<N>),
-    /// A thread that exited.
-    Gone,
     /// The coordinator.
     Coordinates(CoordinatorCore<N>),
 }
@@ -134,6 +132,7 @@ impl<N: Name> Party<N> {
             Act::Name => self.name(),
             Act::Place => self.place(),
             Act::State => self.state(),
+            Act::Depth => self.depth(),
             Act::Target(name) => self.target(name),
             Act::TargetAll => self.target_all(),
             Act::Submit(ask) => self.submit(ask),
@@ -156,6 +155,8 @@ impl<N: Name> Party<N> {
             Act::CalledOperation => self.called_operation(),
             Act::CalledPlace => self.called_place(),
             Act::Awaited => self.awaited(),
+            Act::AwaitedAfter(name) => self.awaited_after(name),
+            Act::AwaitedPlace(name) => self.awaited_place(name),
             Act::Reclaim(serial) => self.reclaim(serial),
             Act::Weigh(serial) => self.weigh(serial),
         }

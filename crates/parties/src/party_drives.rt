@@ -1,12 +1,14 @@
 //! The coordinator's work on the open requests, as far as it goes without waiting.
 ghost use Rattle.std.specs.Prelude.{◌≡◌};
-ghost use Rattle.parties.specs.Acted.{Acts};
+ghost use Rattle.parties.specs.Acted.{Acts, awaited_of};
 
 use crate::acts::{Act, Fault};
+use crate::awaited::awaited_after;
 use crate::driving;
 use crate::party::{Party, Role};
 use bodies::Name;
 use coordinator_core::Callback;
+use desk::Live;
 
 impl<N: Name> Party<N> {
     /// Advances the work on the open requests as far as it goes without waiting. Returns the number of the request that
@@ -45,6 +47,36 @@ impl<N: Name> Party<N> {
         match self.drive.called() {
             Some(Callback::Handshake(_, place)) => Ok(place as u64),
             Some(Callback::Safepoint(_)) | None => Ok(0),
+        }
+    }
+
+    // Returns the first awaited thread with a greater name.
+    fn next_awaited(&self, name: u64) -> Option<Live>
+        ensures { result ≡ awaited_of self.now.role name self.now.drive.due }
+    {
+        match &self.role {
+            Role::Coordinates(keeps) => awaited_after(self.drive.due(), keeps, name),
+            Role::Shares | Role::Starts(_) | Role::Runs(_) | Role::Leaves(_) => None,
+        }
+    }
+
+    /// Returns the least name above this one of a thread that the work waits for, 0 without one.
+    pub fn awaited_after(&mut self, name: u64) -> Result<u64, Fault>
+        ensures { Acts N.board.places self.old (Act.AwaitedAfter name) result self.new }
+    {
+        match self.next_awaited(name) {
+            Some(awaited) => Ok(awaited.name),
+            None => Ok(0),
+        }
+    }
+
+    /// Returns the place of that thread, 0 without one.
+    pub fn awaited_place(&mut self, name: u64) -> Result<u64, Fault>
+        ensures { Acts N.board.places self.old (Act.AwaitedPlace name) result self.new }
+    {
+        match self.next_awaited(name) {
+            Some(awaited) => Ok(awaited.place as u64),
+            None => Ok(0),
         }
     }
 

@@ -2,7 +2,7 @@
 //! word is armed with, or 0 if the thread continues.
 ghost use Rattle.std.specs.Prelude.{◌≡◌, ◌≢◌, Ok, Err, IfOk, IfErr};
 ghost use Rattle.parties.specs.Asked.{WasStarted};
-ghost use Rattle.parties.specs.Acted.{Acts, GivesUp, StartFails, code_of};
+ghost use Rattle.parties.specs.Acted.{Acts, GivesUp, StartFails, code_of, has_stack};
 
 use crate::acts::{Act, Fault};
 use crate::crossing::{self, number_of};
@@ -28,6 +28,23 @@ fn code_of(state: State) -> u64
         | State::NewTrans
         | State::NativeTrans(_)
         | State::BlockedTrans => 6,
+    }
+}
+
+// Whether a thread in this state has its stack, and no poll has stopped it.
+fn has_stack(state: State) -> bool
+    ensures { result ≡ has_stack state }
+{
+    match state {
+        State::InJava | State::InVm | State::Serving(_) => true,
+        State::AtPoll(_)
+        | State::InNative(_)
+        | State::Blocked
+        | State::Vacant
+        | State::New
+        | State::NewTrans
+        | State::NativeTrans(_)
+        | State::BlockedTrans => false,
     }
 }
 
@@ -191,6 +208,20 @@ impl<N: Name> Party<N> {
         Ok(code_of(runner.state()))
     }
 
+    /// Returns how many frames the thread's stack has. Refused unless the thread is in Java, in the VM or serving.
+    pub fn depth(&mut self) -> Result<u64, Fault>
+        ensures { Acts N.board.places self.old Act.Depth result self.new }
+    {
+        let Role::Runs(runner) = &self.role else {
+            return Err(Fault::NotThis);
+        };
+        if has_stack(runner.state()) {
+            Ok(runner.depth() as u64)
+        } else {
+            Err(Fault::Illegal)
+        }
+    }
+
     /// Continues after a poll that stopped. Returns the number of the operation to serve, 0 if the thread continues.
     pub fn stop_next(&mut self) -> Result<u64, Fault>
         ensures { Acts N.board.places self.old Act.StopNext result self.new }
@@ -222,9 +253,7 @@ impl<N: Name> Party<N> {
                 self.move_in()
             }
             Role::Starts(_) => self.move_in(),
-            Role::Runs(_) | Role::Leaves(_) | Role::Gone | Role::Coordinates(_) => {
-                Err(Fault::NotThis)
-            }
+            Role::Runs(_) | Role::Leaves(_) | Role::Coordinates(_) => Err(Fault::NotThis),
         }
     }
 
@@ -246,7 +275,7 @@ impl<N: Name> Party<N> {
         requires { (e : _) × (self.old.role ≡ Role.Starts e) }
         ensures { Acts N.board.places self.old Act.Start result self.new }
     {
-        let Role::Starts(entered) = mem::replace(&mut self.role, Role::Gone) else {
+        let Role::Starts(entered) = mem::replace(&mut self.role, Role::Shares) else {
             unreachable!()
         };
         let name = entered.name();
@@ -262,8 +291,8 @@ impl<N: Name> Party<N> {
         }
     }
 
-    /// Ends the thread and returns 0. If an operation is pending for it, it polls instead, and the poll's number is
-    /// returned.
+    /// Ends the thread and returns 0; the party is a client again. If an operation is pending for the thread, it polls
+    /// instead, and the poll's number is returned.
     pub fn exit(&mut self) -> Result<u64, Fault>
         ensures { Acts N.board.places self.old Act.Exit result self.new }
     {
@@ -273,9 +302,7 @@ impl<N: Name> Party<N> {
                 told => Ok(told),
             },
             Role::Leaves(_) => self.enter_exit(),
-            Role::Shares | Role::Starts(_) | Role::Gone | Role::Coordinates(_) => {
-                Err(Fault::NotThis)
-            }
+            Role::Shares | Role::Starts(_) | Role::Coordinates(_) => Err(Fault::NotThis),
         }
     }
 
@@ -288,7 +315,7 @@ impl<N: Name> Party<N> {
             (λ n. n ≢ 0 → Acts N.board.places self.old Act.Exit (Ok n) self.new) }
         ensures err { IfErr result (λ e. Acts N.board.places self.old Act.Exit (Err e) self.new) }
     {
-        let Role::Runs(runner) = mem::replace(&mut self.role, Role::Gone) else {
+        let Role::Runs(runner) = mem::replace(&mut self.role, Role::Shares) else {
             unreachable!()
         };
         match crossing::vacate(&self.system, runner) {
@@ -314,7 +341,7 @@ impl<N: Name> Party<N> {
         let Some(_receipt) = crossing::enter_exit(&self.system, name) else {
             return Err(Fault::Again);
         };
-        self.role = Role::Gone;
+        self.role = Role::Shares;
         Ok(0)
     }
 }

@@ -62,6 +62,8 @@
    sp_name              thread  all      same      the name          -
    sp_place             thread  all      same      the place         -
    sp_state             thread  all      same      the state         -
+   sp_depth             thread  Java VM  same      how many          -
+                                serving
    sp_call              thread  Java     same      a serial, or 0    NO_SUCH_METHOD DEPTH_FULL
    sp_ret               thread  Java     same      0, polls          EMPTY_STACK
    sp_back_edge         thread  Java     same      0, polls          -
@@ -96,6 +98,8 @@
    sp_called_operation  any     -        -         an operation or 0 -
    sp_called_place      any     -        -         a place           -
    sp_awaited           any     -        -         how many          -
+   sp_awaited_after     any     -        -         a name, or 0      -
+   sp_awaited_place     any     -        -         a place           -
    sp_open              coord.  -        -         a number          AGAIN ALREADY_OPEN QUEUE_EMPTY
    sp_tell              coord.  -        -         an operation or 0 AGAIN NOTHING_OPEN NOT_OF
                                                                      ALREADY_TOLD
@@ -174,17 +178,17 @@ void sp_free(struct sp_party *party);
 
 /* A THREAD. sp_start returns the thread's name, which is above all names given out before. After
    SP_AGAIN the thread may be entered already, so repeat the call. SP_SAFEPOINT_OPEN: a census is
-   open. It polls: if sp_state says that the thread is at a poll, it stops as after any poll. A party
-   whose thread has exited can't start again: SP_NOT_THIS. */
+   open. It polls: if sp_state says that the thread is at a poll, it stops as after any poll. */
 int64_t sp_start(struct sp_party *thread);
-/* Returns 0, and the party is no longer a thread; or the number of an operation, if a poll stopped
-   the thread, which stays one, and goes on in Java. After SP_AGAIN the thread may have left already,
+/* Returns 0, and the party is a client, which may start again as another thread; or the number of an
+   operation, if a poll stopped the thread, which stays one, and goes on in Java. After SP_AGAIN the thread may have left already,
    or may have published its stack, polled and gone into Java, so repeat the call. */
 int64_t sp_exit(struct sp_party *thread);
-/* The thread's name, its place (from 0 on), its state. */
+/* The thread's name, its place (from 0 on), its state, and how many frames its stack has. */
 int64_t sp_name(struct sp_party *thread);
 int64_t sp_place(struct sp_party *thread);
 int64_t sp_state(struct sp_party *thread);
+int64_t sp_depth(struct sp_party *thread);
 
 /* In Java. sp_call enters a method, and returns the serial of the code to run, or 0 to interpret it.
    SP_DEPTH_FULL: the stack has 256 frames. sp_ret leaves the top method and polls. sp_back_edge
@@ -263,9 +267,11 @@ int64_t sp_forget(struct sp_party *party);
    and nothing waits. SP_NO_MEMORY: for a list; the request may be open, and a census keeps the
    threads that it holds, until a later call goes on.
 
-   The other three tell about the last sp_advance. sp_called_operation returns the number
-   of the operation for which the caller runs something now, or 0; sp_called_place the place of the
-   thread that is served next, from 0 on; sp_awaited a number up to 64. To any party but the coordinator they return 0.
+   The other five tell about the last sp_advance. sp_called_operation returns the number of the
+   operation for which the caller runs something now, or 0; sp_called_place the place of the thread
+   that is served next, from 0 on; sp_awaited a number up to 64. After SP_AWAITS, sp_awaited_after
+   returns the least name above this one of a thread that has still to come, or 0 for none, and
+   sp_awaited_place that thread's place, from 0 on. To any party but the coordinator they return 0.
 
        int64_t drive(struct sp_party *coordinator) {
            for (;;) {
@@ -287,6 +293,8 @@ int64_t sp_advance(struct sp_party *coordinator);
 int64_t sp_called_operation(struct sp_party *coordinator);
 int64_t sp_called_place(struct sp_party *coordinator);
 int64_t sp_awaited(struct sp_party *coordinator);
+int64_t sp_awaited_after(struct sp_party *coordinator, uint64_t name);
+int64_t sp_awaited_place(struct sp_party *coordinator, uint64_t name);
 /* SINGLE STEPS. sp_open opens the oldest waiting request, and returns its number. Up to four
    handshakes may be open, or one census: else SP_ALREADY_OPEN. sp_tell arms the poll of the thread
    of the name with the oldest open operation that the thread wasn't told, so that the thread stops

@@ -30,6 +30,7 @@ int64_t sp_checked_exit(struct sp_party *thread);
 int64_t sp_checked_name(struct sp_party *thread);
 int64_t sp_checked_place(struct sp_party *thread);
 int64_t sp_checked_state(struct sp_party *thread);
+int64_t sp_checked_depth(struct sp_party *thread);
 int64_t sp_checked_call(struct sp_party *thread, uint32_t method);
 int64_t sp_checked_ret(struct sp_party *thread);
 int64_t sp_checked_back_edge(struct sp_party *thread);
@@ -57,6 +58,8 @@ int64_t sp_checked_advance(struct sp_party *coordinator);
 int64_t sp_checked_called_operation(struct sp_party *coordinator);
 int64_t sp_checked_called_place(struct sp_party *coordinator);
 int64_t sp_checked_awaited(struct sp_party *coordinator);
+int64_t sp_checked_awaited_after(struct sp_party *coordinator, uint64_t name);
+int64_t sp_checked_awaited_place(struct sp_party *coordinator, uint64_t name);
 int64_t sp_checked_open(struct sp_party *coordinator);
 int64_t sp_checked_tell(struct sp_party *coordinator, uint64_t name);
 int64_t sp_checked_hold(struct sp_party *coordinator, size_t place);
@@ -99,6 +102,7 @@ void sp_checked_moved(struct sp_party *party);
 #define sp_name sp_checked_name
 #define sp_place sp_checked_place
 #define sp_state sp_checked_state
+#define sp_depth sp_checked_depth
 #define sp_call sp_checked_call
 #define sp_ret sp_checked_ret
 #define sp_back_edge sp_checked_back_edge
@@ -126,6 +130,8 @@ void sp_checked_moved(struct sp_party *party);
 #define sp_called_operation sp_checked_called_operation
 #define sp_called_place sp_checked_called_place
 #define sp_awaited sp_checked_awaited
+#define sp_awaited_after sp_checked_awaited_after
+#define sp_awaited_place sp_checked_awaited_place
 #define sp_open sp_checked_open
 #define sp_tell sp_checked_tell
 #define sp_hold sp_checked_hold

@@ -124,6 +124,24 @@ pub extern "C" fn sp_awaited(coordinator: &mut CHandle) -> i64
     code_of(coordinator.dispatch(Act::Awaited))
 }
 
+/// Returns the least name above this one of a thread that the work waits for, 0 without one.
+#[unsafe(no_mangle)]
+pub extern "C" fn sp_awaited_after(coordinator: &mut CHandle, name: u64) -> i64
+    ensures { Replies coordinator.old.handle.board.places result (Act.AwaitedAfter name)
+        coordinator.old.handle.value coordinator.new.handle.value }
+{
+    code_of(coordinator.dispatch(Act::AwaitedAfter(name)))
+}
+
+/// Returns the place of that thread, 0 without one.
+#[unsafe(no_mangle)]
+pub extern "C" fn sp_awaited_place(coordinator: &mut CHandle, name: u64) -> i64
+    ensures { Replies coordinator.old.handle.board.places result (Act.AwaitedPlace name)
+        coordinator.old.handle.value coordinator.new.handle.value }
+{
+    code_of(coordinator.dispatch(Act::AwaitedPlace(name)))
+}
+
 /// Does the last step of reclaiming a code. Returns how many activations it has, 0 if it is freed.
 #[unsafe(no_mangle)]
 pub extern "C" fn sp_reclaim_end(coordinator: &mut CHandle, serial: u64) -> i64

@@ -51,6 +51,15 @@ pub extern "C" fn sp_state(thread: &mut CHandle) -> i64
     code_of(thread.dispatch(Act::State))
 }
 
+/// Returns how many frames the thread's stack has.
+#[unsafe(no_mangle)]
+pub extern "C" fn sp_depth(thread: &mut CHandle) -> i64
+    ensures { Replies thread.old.handle.board.places result Act.Depth thread.old.handle.value
+        thread.new.handle.value }
+{
+    code_of(thread.dispatch(Act::Depth))
+}
+
 /// Enters a method, and returns the serial of its code, 0 if it is interpreted.
 #[unsafe(no_mangle)]
 pub extern "C" fn sp_call(thread: &mut CHandle, method: u32) -> i64
