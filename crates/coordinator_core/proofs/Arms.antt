@@ -1,5 +1,6 @@
 -- The armer's numbers rise as places are armed.
-use Rattle.std.proofs.Common.{◌≡◌, ◌<◌, ◌≤◌, ℕ, length, slice_index, sym, subst, arith, get_or-set_same, get_or-set_other}
+use Rattle.std.proofs.Common.{◌≡◌, ◌<◌, ◌≤◌, ℕ, Option, Some, None, length, slice_index, sym, subst, arith, get_or-set_same, get_or-set_other}
+use Rattle.std.specs.Prelude.{OnSome, IfNone}
 use mathlib.Core.Logic.{dite}
 use native.Mathlib.Decide.{ℕ_discrete}
 use Rattle.thread_state.specs.declared.poll_rule.Arming.{Arming}
@@ -22,3 +23,10 @@ arms_one old place number low later = record {
 
 pub arms_by : (old new : Arming) (place number : ℕ) → place < length old.armed → slice_index old.armed place < number → new ≡ armed_with old place number → ArmsOn old new
 arms_by old new place number low later e = subst (ArmsOn old) (sym e) (arms_one old place number low later)
+
+-- a place was armed as it was found, or nothing was done
+pub arms_put : {A : Type 0} (r : Option A) (old new : Arming) (places place last number : ℕ) → places ≡ length old.armed → OnSome r (new ≡ armed_with old place number)
+    → OnSome r ((place < places) × (slice_index old.armed place ≡ last) × (last < number)) → IfNone r (new ≡ old) → ArmsOn old new
+arms_put None old new places place last number all armed found refused = arms_same old new refused
+arms_put (Some a) old new places place last number all armed found refused =
+    arms_by old new place number (subst (λ n. place < n) all found.0) (subst (λ n. n < number) (sym found.1) found.2) armed

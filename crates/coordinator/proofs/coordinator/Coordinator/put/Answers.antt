@@ -1,7 +1,8 @@
 use Rattle.std.proofs.Common.{rules}
-use Rattle.coordinator_core.proofs.Arms.{arms_by}
+use Rattle.coordinator_core.proofs.Arms.{arms_put}
 use Rattle.coordinator.proofs.coordinator.Coordinator.put.Goals as goal
 
-pub returns-in-Ok-clause-arms : goal.returns-in-Ok-clause-arms
-returns-in-Ok-clause-arms g c =
-    arms_by c.args.self.now.armer _ c.args.target.place c.args.number c.requires.place c.requires.later (search rules)
+pub returns-clause-arms : goal.returns-clause-arms
+returns-clause-arms g c =
+    let what = c.args.pending.now.what in
+    arms_put c.put_in.result c.args.self.now.armer _ _ what.target.place what.last what.number (search rules) (search rules) (search rules) (search rules)
