@@ -20,6 +20,7 @@ use std::error::Error;
 use std::fmt;
 use std::mem::forget;
 use system::System;
+use system::answers::Answer;
 
 /// How many bytes one read asks for. At most so many bytes wait to be written, besides one answer.
 const BLOCK: usize = 65_536;
@@ -138,7 +139,10 @@ fn turn(
         forget(said);
         return Ok(());
     }
-    append_list(text, waits, &said)
+    match &said {
+        Reply::Answered(Answer::Frames(_) | Answer::Census(_)) => append_list(text, waits, &said),
+        _ => unreachable!(),
+    }
 }
 
 /// Ends the line that was held.
