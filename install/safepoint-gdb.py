@@ -18,7 +18,7 @@ import struct
 
 import gdb
 
-# The rows and columns of `sp_listed` in safepoint_wait.c, and its entries: a party, a thread of the machine, a name.
+# The rows and columns of `sp_listed` in safepoint_listed.c, and its entries: a party, a thread of the machine, a name.
 PLACES, SYSTEMS, LISTED = 64, 16, struct.Struct("<3Q")
 # Of crates/parties: Party, with a RunningThread or with its Drive; SharedSystem. Of crates/desk: Desk, Opened.
 FORM = {
@@ -134,7 +134,7 @@ class Party:
         return cls(number_at(address + 8))
 
     def is_noted(self, name, place):
-        """Whether it is what safepoint_wait.c noted: a thread of this name and place, or a coordinator."""
+        """Whether it is what safepoint_listed.c noted: a thread of this name and place, or a coordinator."""
         if place == PLACES:
             return self.role == COORDINATES
         is_same = self.role == RUNS and (self.record.name, self.record.place) == (name, place)
@@ -161,7 +161,7 @@ def listed():
     try:
         table = int(gdb.parse_and_eval("(unsigned long)&sp_listed"))
     except gdb.error:
-        raise Unreadable("nothing lists parties: the program has no safepoint_wait.c, or is stripped. "
+        raise Unreadable("nothing lists parties: the program has no safepoint_listed.c, or is stripped. "
                          "`safepoint system ADDRESS` shows the system of the party at this address") from None
     found, gone = [], 0
     rows = LISTED.iter_unpack(memory(table, (PLACES + 1) * SYSTEMS * LISTED.size))

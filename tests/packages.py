@@ -129,7 +129,7 @@ class Uses:
         shared = self.installed.top / "lib" / file
         shows = symbols("-D", shared) - {f"{name.upper()}_0"}
         has = symbols("-g", *(it for it in self.archives if it.name in contents.archives(name)))
-        wanted = {it for it in has if not it.startswith(("sp_checked_", "sp_record", "sp_listed"))}
+        wanted = {it for it in has if not it.startswith(("sp_checked_", "sp_record", "sp_listed", "sp_waiting"))}
         self.tests.holds(f"{file} shows its functions alone", shows == wanted != set(), f"{sorted(shows ^ wanted)}")
         dynamic = said("readelf", "-d", shared).stdout
         self.tests.holds(f"{file} is {soname}", f"[{soname}]" in dynamic and "TEXTREL" not in dynamic, dynamic)

@@ -48,6 +48,7 @@ USDT = "-DSP_USDT"
 # How many arguments each probe has.
 PROBES = {"request__begin": 1, "request__end": 2, "stop__begin": 2, "stop__end": 2, "callback__begin": 3,
           "callback__end": 3, "wait__begin": 2, "wait__end": 1}
+PROBE = re.compile(r"^ *PROBE\((\w+), .*\);\n", re.MULTILINE)  # a line of one
 FIRST_SLEEP = 500_000  # nanoseconds, at most
 TRIES, CHANGING = 3, "not readable, since a call is just changing them"
 STATES = {"polls": "in Java", "native": "in native code", "blocked": "blocked", "never": "in Java", "vm": "in the VM",
@@ -133,20 +134,22 @@ def compiled(folder, name, text, *words):
     """The code of an object that is compiled of this text."""
     source, made, code = (folder / f"{name}{it}" for it in (".c", ".o", ".bin"))
     source.write_text(text)
-    subprocess.run([c_compiler(), *FLAGS, *words, "-c", source, "-o", made], check=True)
+    subprocess.run([c_compiler(), *FLAGS, "-I", CRATE / "waits", *words, "-c", source, "-o", made], check=True)
     subprocess.run(["objcopy", "-O", "binary", "-j", ".text", made, code], check=True)
     return code.read_bytes()
 
 
 def without_probes(tests):
     """Without -DSP_USDT the probes are no code."""
-    text = (CRATE / "waits" / "safepoint_wait.c").read_text()
-    bare, count = re.subn(r"^ *PROBE\(\w+, .*\);\n", "", text, flags=re.MULTILINE)
-    tests.holds("each line of a probe is found", count >= len(PROBES), f"{count}")
+    texts = {it.stem: it.read_text() for it in WAITS}
+    bare = {name: PROBE.sub("", text) for name, text in texts.items()}
+    found = {name for text in texts.values() for name in PROBE.findall(text)}
+    tests.holds("each probe has a line", found == set(PROBES), f"{sorted(found ^ set(PROBES))}")
     if tests.has("objcopy", *(f"no code of probes{it}" for it in ("", " with -DSP_PTHREAD"))):
         for words in ((), ("-DSP_PTHREAD",)):
-            codes = {compiled(tests.folder, "probes", it, *words) for it in (text, bare)}
-            tests.holds(" ".join(("no code of probes", *words)), len(codes) == 1)
+            differ = [it for it in texts if texts[it] != bare[it] and
+                      compiled(tests.folder, it, texts[it], *words) != compiled(tests.folder, it, bare[it], *words)]
+            tests.holds(" ".join(("no code of probes", *words)), not differ, f"{differ}")
 
 
 def archive(folder, usdt):

@@ -1,6 +1,6 @@
 /* The loops that wait, over libsafepoint.a. They spin a little, yield, and then sleep until
-   something may have changed. They are safepoint_wait.c, which uses nothing but safepoint.h. A host
-   with its own way to park threads writes them again.
+   something may have changed. The files of `waits` use nothing but safepoint.h. A host with its own way
+   to park threads writes them again.
 
    Each call returns what the call in its loop returns, and never SP_AGAIN. With -DSP_PTHREAD it sleeps on a
    pthread condition, else on a futex. With -DSP_RECORD the calls are noted (safepoint_record.h), with
