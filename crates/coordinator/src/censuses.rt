@@ -42,12 +42,7 @@ impl<'a, N: Name, J: HandshakeOp> Coordinator<'a, N, J> {
     {
         let operated = {
             let mut desk = self.shared.desk().lock(rt);
-            operate_over(
-                &mut desk,
-                &mut self.bodies,
-                self.shared.board(),
-                self.alloc,
-            )
+            operate_over(&mut desk, &mut self.bodies, self.shared.board(), self.alloc)
         };
         let (number, list, receipt) = operated?;
         self.operated = true;
