@@ -1,5 +1,5 @@
 -- The results of advancing the work on the open requests: a row of steps, each of which the desk or a room allowed.
-use Rattle.std.specs.Prelude.{◌≡◌, ◌⊎◌, ◌<◌, ℕ, true, List, [], ◌∷◌, Option, Some, None, Result, Unit, Ok, Err, slice_index}
+use Rattle.std.specs.Prelude.{◌≡◌, ◌⊎◌, ◌<◌, ℕ, true, List, [], ◌∷◌, Option, Some, None, Result, Ok, Err, slice_index}
 use Rattle.thread_state.specs.PollRule.{armed_with}
 use Rattle.berths.specs.Berths.{Acted, Berthing, Moved, acted, is_told}
 use Rattle.desk.specs.declared.entries.Entry.{Entry}
