@@ -229,7 +229,7 @@ fn put_census(text: &mut Vec<u8>, counts: &[CodeCount]) -> Result<(), AllocError
 }
 
 /// Puts the line of a stack.
-fn put_stack_line(text: &mut Vec<u8>, frames: &[Frame]) -> Result<(), AllocError>
+pub(crate) fn put_stack_line(text: &mut Vec<u8>, frames: &[Frame]) -> Result<(), AllocError>
     ensures text { OnOk result (text.new.items ≡ text.old.items
         ++ (answer_text (answers.Frames frames.now) ++ 10 ∷ [])) }
     ensures kept { vec_capacity text.old ≤ vec_capacity text.new }
@@ -239,7 +239,7 @@ fn put_stack_line(text: &mut Vec<u8>, frames: &[Frame]) -> Result<(), AllocError
 }
 
 /// Puts the line of a census.
-fn put_census_line(text: &mut Vec<u8>, counts: &[CodeCount]) -> Result<(), AllocError>
+pub(crate) fn put_census_line(text: &mut Vec<u8>, counts: &[CodeCount]) -> Result<(), AllocError>
     ensures text { OnOk result (text.new.items ≡ text.old.items
         ++ (answer_text (answers.Census counts.now) ++ 10 ∷ [])) }
     ensures kept { vec_capacity text.old ≤ vec_capacity text.new }
@@ -249,7 +249,7 @@ fn put_census_line(text: &mut Vec<u8>, counts: &[CodeCount]) -> Result<(), Alloc
 }
 
 /// Puts the line of a reply that is a list.
-pub(crate) fn put_list(text: &mut Vec<u8>, reply: &Reply) -> Result<(), AllocError>
+fn put_list(text: &mut Vec<u8>, reply: &Reply) -> Result<(), AllocError>
     requires { is_short_reply reply.now ≡ false }
     ensures text { OnOk result (text.new.items ≡ text.old.items
         ++ (reply_text reply.now ++ 10 ∷ [])) }

@@ -1,10 +1,11 @@
 // Bytes in, text out.
-ghost use Rattle.std.specs.Prelude.{◌≡◌, ◌++◌, ◌∷◌, ◌^◌, ◌<◌, ◌≤◌, [], ℕ, List, Option, None, false, OnOk, OnErr, IfOk, IfSome, MatchResult, length, take, vec_len, vec_capacity};
+ghost use Rattle.std.specs.Prelude.{◌≡◌, ◌++◌, ◌∷◌, ◌^◌, ◌<◌, ◌≤◌, [], ℕ, List, Option, None, OnOk, OnErr, IfOk, IfSome, MatchResult, length, take, vec_len, vec_capacity};
 ghost use Rattle.std.specs.Io.KnownBytes.{Appends};
 ghost use Rattle.system.specs.World.{World};
 ghost use Rattle.replay.specs.Known.{AppendsPart, Grows};
-ghost use Rattle.replay.specs.Printed.{reply_text};
-ghost use Rattle.replay.specs.Room.{LineTakes, is_short_reply};
+ghost use Rattle.system.specs.declared.answers.Answer.TheVariants as answers;
+ghost use Rattle.replay.specs.Printed.{answer_text};
+ghost use Rattle.replay.specs.Room.{LineTakes};
 ghost use Rattle.replay.specs.Streams.{IsPiece, Turned, FedBy, SinkKept, Finished, GaveUp, failed_writes};
 ghost use Rattle.replay.specs.Outcome.{Wrote, FailedCalls};
 ghost use Rattle.replay.specs.Text.{IsAt, text};
@@ -13,14 +14,14 @@ use crate::device::{Failed, Sink, Source};
 use crate::engine::{Reply, obey};
 use crate::grammar::parse;
 use crate::held::Held;
-use crate::print::{put_list, put_short};
+use crate::print::{put_census_line, put_short, put_stack_line};
 use crate::words::find_end;
 use std::alloc::{AllocError, Global};
 use std::error::Error;
 use std::fmt;
 use std::mem::forget;
 use system::System;
-use system::answers::Answer;
+use system::answers::{Answer, CountList, FrameList};
 
 /// How many bytes one read asks for. At most so many bytes wait to be written, besides one answer.
 const BLOCK: usize = 65_536;
@@ -96,18 +97,31 @@ fn relieve<W: Sink>(waits: &mut Vec<u8>, sink: &mut W) -> Result<(), Failed>
     }
 }
 
-/// Appends a list to what waits, once its text is complete.
+/// Appends the frames of a stack to what waits, once their text is complete.
 #[cold]
-fn append_list(text: &mut Vec<u8>, waits: &mut Vec<u8>, said: &Reply) -> Result<(), AllocError>
-    requires { is_short_reply said.now ≡ false }
+fn put_stack(text: &mut Vec<u8>, waits: &mut Vec<u8>, frames: FrameList) -> Result<(), AllocError>
     ensures text { OnOk result (waits.new.items
-        ≡ waits.old.items ++ (reply_text said.now ++ 10 ∷ [])) }
+        ≡ waits.old.items ++ (answer_text (answers.Frames frames) ++ 10 ∷ [])) }
     ensures none { OnErr result (waits.new.items ≡ waits.old.items) }
     ensures text_kept { vec_capacity text.old ≤ vec_capacity text.new }
     ensures waits_kept { vec_capacity waits.old ≤ vec_capacity waits.new }
 {
     text.clear();
-    put_list(text, said)?;
+    put_stack_line(text, frames.as_slice())?;
+    waits.extend_from_slice(text)
+}
+
+/// Appends the counts of a census to what waits, once their text is complete.
+#[cold]
+fn put_counts(text: &mut Vec<u8>, waits: &mut Vec<u8>, counts: CountList) -> Result<(), AllocError>
+    ensures text { OnOk result (waits.new.items
+        ≡ waits.old.items ++ (answer_text (answers.Census counts) ++ 10 ∷ [])) }
+    ensures none { OnErr result (waits.new.items ≡ waits.old.items) }
+    ensures text_kept { vec_capacity text.old ≤ vec_capacity text.new }
+    ensures waits_kept { vec_capacity waits.old ≤ vec_capacity waits.new }
+{
+    text.clear();
+    put_census_line(text, counts.as_slice())?;
     waits.extend_from_slice(text)
 }
 
@@ -139,8 +153,9 @@ fn turn(
         forget(said);
         return Ok(());
     }
-    match &said {
-        Reply::Answered(Answer::Frames(_) | Answer::Census(_)) => append_list(text, waits, &said),
+    match said {
+        Reply::Answered(Answer::Frames(frames)) => put_stack(text, waits, frames),
+        Reply::Answered(Answer::Census(counts)) => put_counts(text, waits, counts),
         _ => unreachable!(),
     }
 }
