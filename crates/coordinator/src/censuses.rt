@@ -40,13 +40,33 @@ impl<'a, N: Name, J: HandshakeOp> Coordinator<'a, N, J> {
         ensures refused { IfErr result (λ e. (s : DeskState) × census_refused s self.old.held e
             × (self.new ≡ self.old)) }
     {
-        let operated = {
-            let mut desk = self.shared.desk().lock(rt);
-            operate_over(&mut desk, &mut self.bodies, self.shared.board(), self.alloc)
-        };
-        let (number, list, receipt) = operated?;
+        let (number, list, receipt) = self.enter_operated(rt)?;
         self.operated = true;
         self.bodies.clear_all(self.shared.row(), number);
         Ok((number, list, receipt))
+    }
+
+    fn enter_operated<R: Wait>(
+        &mut self,
+        rt: &R,
+    ) -> Result<(u64, Vec<(u64, u32)>, Operating<N>), OperateFault>
+        ensures operated { IfOk result (λ r. r.2.stands.entry ≡ Entry.Operate r.0) }
+        ensures shown { IfOk result (λ r. r.2.list ≡ r.1.items) }
+        ensures all { OnOk result ((s : DeskState) × MayOperate s self.old.held) }
+        ensures counted { IfOk result (λ r. IsCensus self.new.held r.1.items) }
+        ensures published { OnOk result (AreEach IsPublished self.old.held self.new.held) }
+        ensures others { (self.new.armer ≡ self.old.armer)
+            × (self.new.operated ≡ self.old.operated) }
+
+        ensures refused { IfErr result (λ e. (s : DeskState) × census_refused s self.old.held e
+            × (self.new.held ≡ self.old.held)) }
+    {
+        let mut desk = self.shared.desk().lock(rt);
+        let board = self.shared.board();
+        let operated = match operate_over(&mut desk, &mut self.bodies, board, self.alloc) {
+            Ok(operated) => operated,
+            Err(fault) => return Err(fault),
+        };
+        Ok(operated)
     }
 }

@@ -9,8 +9,9 @@ use Rattle.coordinator_core.specs.Done.{Releases}
 use Rattle.coordinator_core.specs.declared.drive.Callback.{Callback}
 use Rattle.coordinator_core.specs.declared.drive.Callback.TheVariants as callback
 use Rattle.parties.specs.declared.acts.Fault.{Fault}
+use Rattle.parties.specs.declared.acts.Fault.TheVariants as fault
 use Rattle.parties.specs.Asked.{Told}
-use Rattle.parties.specs.Driven.{Work, work, Step, Goes, Leads, Called, Held, Closed, Rests, Ends, ArmsListed, ArmsAsked}
+use Rattle.parties.specs.Driven.{Work, work, Step, Goes, Leads, Called, Held, Closed, Rests, Ends, Advances, ArmsListed, ArmsAsked}
 
 pub none : (N : Type 0) (old new : Work) → new ≡ old → Leads N old new
 none N old new e = record { between = []; goes = e }
@@ -90,3 +91,35 @@ pub closed_then : (N : Type 0) (a : Work) (mid new : Holding) (before after : Op
     → IfOk said (λ n. Closed (work mid before) n (work new after)) → OnErr said ((new ≡ mid) × (after ≡ before)) → IfErr said (Rests (work new after)) → Ends N a said (work new after)
 closed_then N a mid new before after (Ok n) p closed stays rests = (work mid before, p, closed)
 closed_then N a mid new before after (Err e) p closed stays rests = (then N a (work mid before) (work new after) p (same N mid new before after stays.0 stays.1), rests)
+
+-- A row of steps, and then the end of the work.
+pub advanced : (N : Type 0) (a mid new : Work) (counted counts : List (ℕ × ℕ)) (said : Told) → counts ≡ counted → Leads N a mid → Ends N mid said new
+    → Advances N a counted said new counts
+advanced N a mid new counted counts (Ok n) same_counts p ends = (same_counts, ends.0, then N a mid ends.0 p ends.1, ends.2)
+advanced N a mid new counted counts (Err fault.AtSafepoint) same_counts p ends = absurd ends.1
+advanced N a mid new counted counts (Err fault.Again) same_counts p ends = (same_counts, then N a mid new p ends.0, ends.1)
+advanced N a mid new counted counts (Err fault.NoMemory) same_counts p ends = (same_counts, then N a mid new p ends.0, ends.1)
+advanced N a mid new counted counts (Err fault.NotThis) same_counts p ends = (same_counts, then N a mid new p ends.0, ends.1)
+advanced N a mid new counted counts (Err fault.Illegal) same_counts p ends = (same_counts, then N a mid new p ends.0, ends.1)
+advanced N a mid new counted counts (Err fault.NoSuchMethod) same_counts p ends = (same_counts, then N a mid new p ends.0, ends.1)
+advanced N a mid new counted counts (Err fault.DepthFull) same_counts p ends = (same_counts, then N a mid new p ends.0, ends.1)
+advanced N a mid new counted counts (Err fault.EmptyStack) same_counts p ends = (same_counts, then N a mid new p ends.0, ends.1)
+advanced N a mid new counted counts (Err fault.StackNotEmpty) same_counts p ends = (same_counts, then N a mid new p ends.0, ends.1)
+advanced N a mid new counted counts (Err fault.Pending) same_counts p ends = (same_counts, then N a mid new p ends.0, ends.1)
+advanced N a mid new counted counts (Err fault.NotAnswered) same_counts p ends = (same_counts, then N a mid new p ends.0, ends.1)
+advanced N a mid new counted counts (Err fault.NotWeighed) same_counts p ends = (same_counts, then N a mid new p ends.0, ends.1)
+advanced N a mid new counted counts (Err (fault.Late place)) same_counts p ends = (same_counts, then N a mid new p ends.0, ends.1)
+advanced N a mid new counted counts (Err fault.Runs) same_counts p ends = (same_counts, then N a mid new p ends.0, ends.1)
+advanced N a mid new counted counts (Err fault.Awaits) same_counts p ends = (same_counts, then N a mid new p ends.0, ends.1)
+advanced N a mid new counted counts (Err (fault.Start f)) same_counts p ends = (same_counts, then N a mid new p ends.0, ends.1)
+advanced N a mid new counted counts (Err (fault.Ask f)) same_counts p ends = (same_counts, then N a mid new p ends.0, ends.1)
+advanced N a mid new counted counts (Err (fault.Code f)) same_counts p ends = (same_counts, then N a mid new p ends.0, ends.1)
+advanced N a mid new counted counts (Err (fault.Invalidate f)) same_counts p ends = (same_counts, then N a mid new p ends.0, ends.1)
+advanced N a mid new counted counts (Err (fault.Open f)) same_counts p ends = (same_counts, then N a mid new p ends.0, ends.1)
+advanced N a mid new counted counts (Err (fault.Tell f)) same_counts p ends = (same_counts, then N a mid new p ends.0, ends.1)
+advanced N a mid new counted counts (Err (fault.Hold f)) same_counts p ends = (same_counts, then N a mid new p ends.0, ends.1)
+advanced N a mid new counted counts (Err (fault.Serve f)) same_counts p ends = (same_counts, then N a mid new p ends.0, ends.1)
+advanced N a mid new counted counts (Err (fault.Release f)) same_counts p ends = (same_counts, then N a mid new p ends.0, ends.1)
+advanced N a mid new counted counts (Err (fault.Operate f)) same_counts p ends = (same_counts, then N a mid new p ends.0, ends.1)
+advanced N a mid new counted counts (Err (fault.Close f)) same_counts p ends = (same_counts, then N a mid new p ends.0, ends.1)
+advanced N a mid new counted counts (Err (fault.Reclaim f)) same_counts p ends = (same_counts, then N a mid new p ends.0, ends.1)

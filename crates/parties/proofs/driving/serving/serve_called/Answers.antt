@@ -9,14 +9,14 @@ use Rattle.parties.proofs.driving.serving.serve_called.Goals.{then-is_none, else
 pub returns-then-place-places-clause-leads : goal.returns-then-place-places-clause-leads
 returns-then-place-places-clause-leads g c =
     let keeps = c.args.keeps.now in
-    let is : c.args.drive.now.called ≡ Some (callback.Handshake c.args.number c.args.place) = c.requires in
+    let is : c.args.drive.now.called ≡ Some (callback.Handshake c.args.number c.args.place) = c.requires.called in
     let ends : c.call_ends.new.self.called ≡ None = search rules in
     dropped g.row.N.Denot keeps keeps c.args.number c.args.place _ _ is ends (inl refl)
 
 pub returns-clause-leads : goal.returns-clause-leads
 returns-clause-leads g c =
     let keeps = c.args.keeps.now in let mid = c.serve_called.new.self in
-    let is : c.args.drive.now.called ≡ Some (callback.Handshake c.args.number c.args.place) = c.requires in
+    let is : c.args.drive.now.called ≡ Some (callback.Handshake c.args.number c.args.place) = c.requires.called in
     let ends : c.call_ends-2.new.self.called ≡ None = search rules in
     let after = c.call_ends-2.new.self.called in
     let first = settled g.row.N.Denot keeps mid c.args.number c.args.place c.args.drive.now.called after c.serve_called.result is ends c.serve_called.ensures.served c.serve_called.ensures.left in
