@@ -95,7 +95,7 @@ closed_then N a mid new before after (Err e) p closed stays rests = (then N a (w
 -- A row of steps, and then the end of the work.
 pub advanced : (N : Type 0) (a mid new : Work) (counted counts : List (ℕ × ℕ)) (said : Told) → counts ≡ counted → Leads N a mid → Ends N mid said new
     → Advances N a counted said new counts
-advanced N a mid new counted counts (Ok n) same_counts p ends = (same_counts, ends.0, then N a mid ends.0 p ends.1, ends.2)
+advanced N a mid new counted counts (Ok n) same_counts p ends = (same_counts, (ends.0, then N a mid ends.0 p ends.1, ends.2))
 advanced N a mid new counted counts (Err fault.AtSafepoint) same_counts p ends = absurd ends.1
 advanced N a mid new counted counts (Err fault.Again) same_counts p ends = (same_counts, then N a mid new p ends.0, ends.1)
 advanced N a mid new counted counts (Err fault.NoMemory) same_counts p ends = (same_counts, then N a mid new p ends.0, ends.1)

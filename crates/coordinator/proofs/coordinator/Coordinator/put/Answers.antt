@@ -15,4 +15,4 @@ returns-clause-arms g c =
     let all : c.self-2.inside.places ≡ length before.armed = search rules in
     let refused = none_then c.put_in.result (λ no. ap (λ (a : ArmerSeen). a.seen) no.0) c.put_in.ensures.refused in
     subst (λ (a : Arming). ArmsOn a after) same
-        (arms_put c.put_in.result before after c.self-2.inside.places what.target.place what.last what.number all c.put_in.ensures.armed c.put_in.ensures.as_found refused)
+    (arms_put c.put_in.result before after c.self-2.inside.places what.target.place what.last what.number all c.put_in.ensures.armed c.put_in.ensures.as_found refused)
