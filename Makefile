@@ -61,6 +61,7 @@ examples: embed
 safepoint:
 	@tests/build.py model safepoint
 	@tests/safepoint.py crates/safepoint/out/libsafepoint.a
+	@tests/collector.py crates/safepoint/out/libsafepoint.a
 
 embed:
 	@tests/build.py model

@@ -52,6 +52,7 @@ ALONE = (
     (("runs.py", MONITOR), ()),
     (("embed.py", MODEL), ("model",)),
     (("safepoint.py", SAFEPOINT, MODEL), ("safepoint", "model")),
+    (("collector.py", SAFEPOINT), ("safepoint",)),
     (("stacks.py", SAFEPOINT), ("safepoint",)),
     (("header.py", SAFEPOINT), ("safepoint",)),
     (("watching.py", SAFEPOINT), ("safepoint",)),

@@ -34,11 +34,11 @@ THREADS = (1, 4, 16, 64)
 WORK, SHORT_WORK, MINUTE, LONGEST = 3000, 300, 60, 120
 # What a run prints.
 SAID = re.compile(
-    r"(?P<threads>\d+) threads did (?P<tasks>\d+) tasks in (?P<lives>\d+) lives\n"
-    r"(?P<collections>\d+) collections moved (?P<moved>\d+) objects\n"
-    r"(?P<kept>\d+) weak roots kept, (?P<cleared>\d+) cleared\n"
-    r"caches cleaned: (?P<own>\d+) by their threads, (?P<held>\d+) for held threads, (?P<early>\d+) at a lookup\n"
-    r"(?P<checksums>checksums: .*)\n"
+    r"threads (?P<threads>\d+), tasks (?P<tasks>\d+), lives (?P<lives>\d+)\n"
+    r"collections (?P<collections>\d+), objects moved (?P<moved>\d+)\n"
+    r"weak roots kept (?P<kept>\d+), cleared (?P<cleared>\d+)\n"
+    r"caches cleaned by their threads (?P<own>\d+), for held threads (?P<held>\d+), at a lookup (?P<early>\d+)\n"
+    r"(?P<checksums>checksums of lists \w{16}, trees \w{16}, graphs \w{16})\n"
 )
 TITLES = ("from the request until all threads are held:", "while all threads are held:")
 BUCKET = re.compile(r" +\d+ +(\d+)  #+")
@@ -82,12 +82,13 @@ class Programs(Tests):
     def counts(self, name, program, count, *words):
         """What a run prints, number by number, or None: its threads lived more than once and objects moved."""
         ran = self.run(program, "--threads", count, *words)
-        if not self.judge_run(name, ran, shows=True):
+        if not self.judge_run(name, ran):
             return None
         found = SAID.match(ran.stdout.decode())
         said = {key: int(it) if it.isdecimal() else it for key, it in (found.groupdict() if found else {}).items()}
         is_so = said and said["threads"] == count < said["lives"] and said["collections"] and said["moved"]
-        return said if self.holds(f"{name}: what it prints", is_so, f"{ran.stdout!r}") else None
+        shown = f"{said['collections']} collections, {said['moved']} objects moved" if is_so else None
+        return said if self.judge(f"{name}: what it prints", () if is_so else f"{ran.stdout!r}", shown) else None
 
     def works(self, name, program, count, work):
         """A run of so much work: the checksums are those of each other run of the same work."""
@@ -173,11 +174,10 @@ def seen(tests):
 def shown(tests):
     """The blocks of the pages."""
     for page in PAGES:
-        files = Files(None)
-        blocks = [it for it in BLOCK.findall(page.read_text()) if (ROOT / it[1]).is_file() and it[1]]
+        blocks = [it[1:] for it in BLOCK.findall(page.read_text()) if it[1] and (ROOT / it[1]).is_file()]
         tests.holds(f"{page.name} shows code", blocks)
-        for _, name, text in blocks:
-            tests.judge(f"{page.name}: {name}", files.fault_of(name, text))
+        for name, text in blocks:
+            tests.judge(f"{page.name}: {name}: {text.splitlines()[0]}", Files(None).fault_of(name, text))
 
 
 PARTS = (plain, words, checked, careless, sanitized, seen, shown)

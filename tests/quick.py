@@ -45,8 +45,8 @@ NOTE = ROOT / "out" / "quick.json"
 COLUMNS = 120
 OF_A_CRATE = re.compile(r"crates/(\w+)/(?:src|specs|proofs)/")
 OF_C = re.compile(
-    r"crates/\w+/(?:include|waits)/|bindings/|examples/(?:embed|jit)/"
-    r"|tests/(?:\w+\.(?:c|cpp|h)|(?:safepoint|embed|refusing|unproved)\.py)$"
+    r"crates/\w+/(?:include|waits)/|bindings/|examples/(?:embed|gc|jit)/"
+    r"|tests/(?:\w+\.(?:c|cpp|h)|(?:safepoint|collector|embed|refusing|unproved)\.py)$"
 )
 ENDED = re.compile(r"^run=ended status=0 .*proved=no$", re.MULTILINE)
 TESTS = re.compile(r"^test result: ok\. (\d+) passed; 0 failed", re.MULTILINE)
@@ -280,6 +280,7 @@ class Quick:
         if self.c_names():
             libraries = {it: unproved.library_of(it) for it in unproved.NAMES}
             self.script("tests/safepoint.py", libraries["safepoint"], libraries["model"])
+            self.script("tests/collector.py", libraries["safepoint"])
             self.script("tests/embed.py", libraries["model"])
         return self.tally.end()
 

@@ -29,7 +29,7 @@ static void forward(struct target *to, struct object **root) {
 static void forward_thread(struct target *to, struct mutator *thread, uint64_t epoch) {
     if (thread->cache.epoch != epoch) die(WRONG_RESULT, "a cache wasn't cleaned since the last collection");
     for (size_t i = 0; i < thread->root_count; i++) forward(to, &thread->roots[i]);
-    thread->buffer = (struct buffer){NULL, NULL};
+    thread->buffer = (struct buffer){NULL, 0};
 }
 
 static void forward_roots(struct target *to, struct vm *vm) {

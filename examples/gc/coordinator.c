@@ -9,7 +9,7 @@
 #include "vm.h"
 
 /* The coordinator itself asks for a collection if nobody has for so many nanoseconds. */
-enum { PERIOD = 5000000, BETWEEN_FORGETS = 64 };
+enum { PERIOD = 10000000, BETWEEN_FORGETS = 64 };
 
 void coordinator_make(struct coordinator *it, struct vm *vm, int running) {
     it->vm = vm;
@@ -27,8 +27,8 @@ void coordinator_free(struct coordinator *it) {
 
 /* --- asking --- */
 
-/* All that ask before the collection begins share a census. The lock is held for a moment alone, and not at a poll.
-   So threads take it in Java, and the coordinator while they are held. */
+/* All that ask before the collection begins share a census. The lock is held for a moment only, and never at a poll.
+   So threads take it in Java, and the coordinator may take it while they are held. */
 int64_t ask_for_collection(struct coordinator *it, struct sp_party *asker) {
     pthread_mutex_lock(&it->lock);
     if (!it->asked) {
@@ -76,8 +76,8 @@ static bool await_request(struct coordinator *it) {
 
 /* --- what runs while threads are held --- */
 
-/* All live threads are held. The objects move now. The caches of weak roots come later, by a handshake of the threads
-   that live here. It is submitted in the pause, so it comes before each collection that is asked for from here on. */
+/* The pause. The objects move here. The caches of weak roots are cleaned after it, by a handshake of the threads that
+   live now. It is submitted here, so it comes before each collection that is asked for later. */
 static void run_collection(struct coordinator *it, int64_t census) {
     uint64_t begun = now();
     note_pause(&it->to_hold, begun - take_asked(it));
@@ -85,18 +85,19 @@ static void run_collection(struct coordinator *it, int64_t census) {
     collect(it->vm);
     must("sp_target_all", sp_target_all(&it->party));
     SP_WAIT(it->last_reader, sp_submit(&it->party, SP_DEPTH, 0));
-    if (it->last_reader == SP_NO_TARGETS) it->last_reader = census; /* no thread lives */
+    if (it->last_reader == SP_NO_TARGETS) it->last_reader = census; /* no thread lives, so there is no cache */
     must("sp_submit", it->last_reader);
     note_pause(&it->paused, now() - begun);
 }
 
-/* A thread is held, and the coordinator serves it in its place. The thread has no weak roots yet if the place says
-   nothing of it. */
+/* One thread is held, and the coordinator cleans its cache. A thread that is still in its start isn't in the table, and
+   has no weak roots. */
 static void clean_for_held(struct vm *vm, size_t place) {
     struct mutator *held = atomic_load(&vm->mutators[place]);
     if (held) clean_cache(&held->cache, vm->heap.epoch, FOR_HELD);
 }
 
+/* What the coordinator runs: a collection while all threads are held, or a thread's part of a handshake. */
 static void at_safe_point(void *with, const struct sp_served *served) {
     struct coordinator *it = with;
     order_hold(&it->vm->heap.order);

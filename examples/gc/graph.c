@@ -75,6 +75,7 @@ uint64_t graph_task(struct mutator *me, uint64_t task) {
     make_nodes(me, roots);
     join_nodes(me, roots, task);
     for (uint64_t round = 0; round < ROUNDS; round++) {
+        rest(me);
         uint64_t found = go_round(me, roots, task);
         check("graph", task, found, wanted_of(task, round));
         checksum = folded(checksum, found);

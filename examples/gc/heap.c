@@ -43,17 +43,18 @@ bool refill(struct heap *heap, struct buffer *buffer, size_t bytes) {
     while (!atomic_compare_exchange_weak_explicit(&heap->used, &used, used + size, memory_order_relaxed,
                                                   memory_order_relaxed));
     buffer->next = heap->spaces[heap->current] + used;
-    buffer->end = buffer->next + size;
+    buffer->left = size;
     return true;
 }
 
 struct object *new_object(struct buffer *buffer, uint32_t pointers, uint32_t words) {
     size_t size = object_size(pointers, words);
-    if ((size_t)(buffer->end - buffer->next) < size) return NULL;
+    if (buffer->left < size) return NULL;
     struct object *object = memset(buffer->next, 0, size); /* a pointer of all zeros is NULL */
     object->pointers = pointers;
     object->words = words;
     buffer->next += size;
+    buffer->left -= size;
     return object;
 }
 

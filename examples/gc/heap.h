@@ -39,9 +39,10 @@ struct heap {
     struct order order;
 };
 
-/* A thread's part of the current space. All zeros: the thread has none. */
+/* A thread's part of the current space: where the next object goes, and how many bytes are left. */
 struct buffer {
-    char *next, *end;
+    char *next;
+    size_t left;
 };
 
 /* Maps two spaces of so many bytes. */

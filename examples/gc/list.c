@@ -46,7 +46,9 @@ uint64_t list_task(struct mutator *me, uint64_t task) {
     uint64_t wanted = 0;
     for (uint64_t i = 0; i < LENGTH; i++) wanted = folded(wanted, value_of(task, i));
     build(me, roots, task);
+    rest(me);
     reverse(me, roots);
+    rest(me);
     uint64_t found = sum(me, roots);
     leave_frame(me, ROOTS);
     check("list", task, found, wanted);

@@ -78,17 +78,16 @@ static void print_counts(const struct crew *crew, const struct worker *workers, 
         lives += workers[i].lives, kept += cache->kept, cleared += cache->cleared;
         for (int by = 0; by < CLEANERS; by++) cleaned[by] += cache->cleaned[by];
     }
-    printf("%lu threads did %" PRIu64 " tasks in %" PRIu64 " lives\n", count,
-           tasks < crew->tasks ? tasks : crew->tasks, lives);
-    printf("%" PRIu64 " collections moved %" PRIu64 " objects\n", crew->vm->heap.epoch, crew->vm->heap.moved);
-    printf("%" PRIu64 " weak roots kept, %" PRIu64 " cleared\n", kept, cleared);
-    printf("caches cleaned: %" PRIu64 " by their threads, %" PRIu64 " for held threads, %" PRIu64 " at a lookup\n",
+    printf("threads %lu, tasks %" PRIu64 ", lives %" PRIu64 "\n", count, tasks < crew->tasks ? tasks : crew->tasks, lives);
+    printf("collections %" PRIu64 ", objects moved %" PRIu64 "\n", crew->vm->heap.epoch, crew->vm->heap.moved);
+    printf("weak roots kept %" PRIu64 ", cleared %" PRIu64 "\n", kept, cleared);
+    printf("caches cleaned by their threads %" PRIu64 ", for held threads %" PRIu64 ", at a lookup %" PRIu64 "\n",
            cleaned[BY_THREAD], cleaned[FOR_HELD], cleaned[AT_LOOKUP]);
 }
 
 static void print_checksums(const struct heap *heap) {
     const union field *sums = heap->globals[TOTALS]->fields;
-    printf("checksums: list %016" PRIx64 ", tree %016" PRIx64 ", graph %016" PRIx64 "\n", sums[LIST_TASK].word,
+    printf("checksums of lists %016" PRIx64 ", trees %016" PRIx64 ", graphs %016" PRIx64 "\n", sums[LIST_TASK].word,
            sums[TREE_TASK].word, sums[GRAPH_TASK].word);
 }
 

@@ -80,7 +80,7 @@ void start_mutator(struct mutator *me) {
 
 void exit_mutator(struct mutator *me) {
     if (me->root_count) die(WRONG_RESULT, "a thread exits with %zu roots", me->root_count);
-    me->buffer = (struct buffer){NULL, NULL};
+    me->buffer = (struct buffer){NULL, 0};
     empty_cache(&me->cache);
     atomic_store(&me->vm->mutators[must("sp_place", sp_place(&me->party))], NULL);
     order_give(order_of(me));

@@ -19,6 +19,7 @@ struct mutator {
     struct sp_party party;
     struct buffer buffer;
     struct weak_cache cache;
+    uint64_t random;
     size_t root_count;
     struct object *roots[MOST_ROOTS]; /* the shadow stack */
 };

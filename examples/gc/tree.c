@@ -88,6 +88,7 @@ uint64_t tree_task(struct mutator *me, uint64_t task) {
     uint8_t has[KEYS] = {0};
     uint64_t wanted = 0;
     change(me, roots, task, has);
+    rest(me);
     if (roots[TREE]) walk_below(&walk, roots[TREE]);
     leave_frame(me, ROOTS);
     for (uint64_t key = 0; key < KEYS; key++)

@@ -14,4 +14,7 @@ uint64_t tree_task(struct mutator *me, uint64_t task);
 /* A ring with chords, whose nodes have checksums of their neighbours. */
 uint64_t graph_task(struct mutator *me, uint64_t task);
 
+/* In the middle of a task, with roots in the shadow stack, the thread computes or sleeps in native code, or waits. */
+void rest(struct mutator *me);
+
 #endif

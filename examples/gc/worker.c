@@ -9,7 +9,7 @@
 #include "vm.h"
 #include "work.h"
 
-enum { TASKS_OF_A_LIFE = 16, NAP = 100000, SPINS = 5000 };
+enum { TASKS_OF_A_LIFE = 16, REST_KINDS = 8, NAP = 100000, SPINS = 5000 };
 
 static uint64_t (*const task_of[KINDS])(struct mutator *, uint64_t) = {list_task, tree_task, graph_task};
 
@@ -23,13 +23,20 @@ static void add_to_totals(struct worker *it, enum kind kind, uint64_t checksum) 
     pthread_mutex_unlock(&crew->lock);
 }
 
-/* Between tasks a thread is in native code for a while: it computes, or sleeps. */
-static void be_native(struct worker *it) {
-    it->random = mixed(it->random);
-    enter_native(&it->mutator);
-    if (it->random % 4) for (volatile uint64_t i = it->random % SPINS; i; i--) continue;
-    else nanosleep(&(struct timespec){0, NAP}, NULL);
-    leave_native(&it->mutator);
+static void nap(void) { nanosleep(&(struct timespec){0, NAP}, NULL); }
+
+void rest(struct mutator *me) {
+    me->random = mixed(me->random);
+    if (me->random % REST_KINDS == 0) {
+        enter_wait(me);
+        nap();
+        leave_wait(me);
+        return;
+    }
+    enter_native(me);
+    if (me->random % REST_KINDS == 1) nap();
+    else for (volatile uint64_t i = me->random % SPINS; i; i--) continue;
+    leave_native(me);
 }
 
 /* Does one task. Returns false if none is left. */
@@ -39,7 +46,6 @@ static bool do_task(struct worker *it) {
     enum kind kind = (enum kind)(task % KINDS);
     if (task >= it->crew->tasks) return false;
     add_to_totals(it, kind, task_of[kind](&it->mutator, task));
-    be_native(it);
     return true;
 }
 
@@ -67,7 +73,7 @@ void make_totals(struct crew *crew) {
 
 void start_worker(struct worker *it, struct crew *crew, uint64_t number) {
     it->crew = crew;
-    it->random = number;
+    it->mutator.random = number;
     make_mutator(&it->mutator, crew->vm);
     if (pthread_create(&it->id, NULL, run, it)) die(BAD_USE, "there is no thread");
 }

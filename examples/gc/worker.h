@@ -22,7 +22,7 @@ struct crew {
 struct worker {
     struct crew *crew;
     pthread_t id;
-    uint64_t lives, random;
+    uint64_t lives;
     struct mutator mutator;
 };
 
