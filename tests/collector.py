@@ -104,7 +104,7 @@ class Programs(Tests):
         ran = self.run(program, "--careless", "--threads", count, "--seconds", LONGEST)
         said = ran.stderr.decode(errors="replace")
         is_caught = ran.returncode in CAUGHT and not ran.stdout and re.fullmatch(r"(?:gc: .*\n)+", said)
-        self.judge(name, () if is_caught else f"status {ran.returncode}, {ran.stdout!r}, {said!r}", said.splitlines()[:1])
+        self.judge(name, () if is_caught else f"status {ran.returncode}, {ran.stdout!r}, {said!r}", said.split("\n")[0])
 
 
 def plain(tests):
@@ -168,7 +168,8 @@ def seen(tests):
     if program:
         ran = tests.run(program, "--careless", "--threads", 4, "--seconds", LONGEST)
         said = ran.stderr.decode(errors="replace")
-        tests.holds(name, ran.returncode and "WARNING: ThreadSanitizer: data race" in said, f"{ran.returncode}, {said!r}")
+        is_seen = ran.returncode and "WARNING: ThreadSanitizer: data race" in said
+        tests.holds(name, is_seen, f"status {ran.returncode}, {said!r}")
 
 
 def shown(tests):

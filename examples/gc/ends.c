@@ -19,8 +19,8 @@ _Noreturn void die(int status, const char *form, ...) {
 
 void check(const char *what, uint64_t task, uint64_t found, uint64_t wanted) {
     if (found == wanted) return;
-    die(WRONG_RESULT, "the %s of task %" PRIu64 " has the checksum %016" PRIx64 ", and not %016" PRIx64, what, task, found,
-        wanted);
+    die(WRONG_RESULT, "the %s of task %" PRIu64 " has the checksum %016" PRIx64 ", and not %016" PRIx64, what, task,
+        found, wanted);
 }
 
 int64_t must(const char *call, int64_t answer) {

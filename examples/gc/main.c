@@ -78,7 +78,8 @@ static void print_counts(const struct crew *crew, const struct worker *workers, 
         lives += workers[i].lives, kept += cache->kept, cleared += cache->cleared;
         for (int by = 0; by < CLEANERS; by++) cleaned[by] += cache->cleaned[by];
     }
-    printf("threads %lu, tasks %" PRIu64 ", lives %" PRIu64 "\n", count, tasks < crew->tasks ? tasks : crew->tasks, lives);
+    if (tasks > crew->tasks) tasks = crew->tasks; /* each thread asked for one that wasn't there */
+    printf("threads %lu, tasks %" PRIu64 ", lives %" PRIu64 "\n", count, tasks, lives);
     printf("collections %" PRIu64 ", objects moved %" PRIu64 "\n", crew->vm->heap.epoch, crew->vm->heap.moved);
     printf("weak roots kept %" PRIu64 ", cleared %" PRIu64 "\n", kept, cleared);
     printf("caches cleaned by their threads %" PRIu64 ", for held threads %" PRIu64 ", at a lookup %" PRIu64 "\n",

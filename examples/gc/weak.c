@@ -36,7 +36,8 @@ struct object *intern(struct mutator *me, uint64_t key) {
     object = allocate(me, 0, WORDS);
     object->fields[KEY].word = key;
     object->fields[MIXED_KEY].word = mixed(key);
-    clean_cache(&me->cache, me->vm->heap.epoch, AT_LOOKUP); /* a collection may have come: the new object isn't of before */
+    /* If a collection came meanwhile, the cache's other objects are of before it, and the new one isn't. */
+    clean_cache(&me->cache, me->vm->heap.epoch, AT_LOOKUP);
     me->cache.of[key] = object;
     return object;
 }
