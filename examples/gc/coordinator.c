@@ -77,7 +77,8 @@ static bool await_request(struct coordinator *it) {
 /* --- what runs while threads are held --- */
 
 /* The pause. The objects move here. The caches of weak roots are cleaned after it, by a handshake of the threads that
-   live now. It is submitted here, so it comes before each collection that is asked for later. */
+   live now. It is submitted here, so it comes before each collection that is asked for later. A handshake asks each
+   stack something, here its depth, and nobody reads the replies. */
 static void run_collection(struct coordinator *it, int64_t census) {
     uint64_t begun = now();
     note_pause(&it->to_hold, begun - take_asked(it));
