@@ -10,7 +10,7 @@
 # make test      30 minutes (2 hours and more); the gate, then further wrong bodies (begun within EDITS_MINUTES, if that is set), the built programs and the libraries for C from outside
 # make examples  2 minutes (20 minutes); the built program on all examples, on bad words and with each fault; then make embed
 # make embed     seconds (10 minutes); the toy runtimes in C and in Rust that step the model beside them, over the static library
-# make safepoint  2 minutes (20 minutes); builds the library by which C, C++ and Rust stop threads, and tries it from each
+# make safepoint  3 minutes (20 minutes); builds the library by which C, C++ and Rust stop threads, and tries it from each
 # make pictures  seconds (10 minutes); draws the pictures of PICTURES, which are in examples, again, and the small one of the README
 # make picture   seconds (or 3 minutes, before any proof); finds an order of the log of calls LOG, checks it, and draws it into OUT
 # make random    minutes (30 minutes); compares pictures of 100,000 random lines, over all events, with what the core answers

@@ -11,7 +11,7 @@ It takes half a minute on a quiet machine, with --long some fifteen.
 | with -DSP_CHECK | it runs as it does without |
 | `--careless` | the status is that of a stale pointer or of a wrong result, and one line says so |
 | ThreadSanitizer, AddressSanitizer | no report; of a careless run ThreadSanitizer reports a race |
-| the pages that show its code | a block that names a file is in that file |
+| the pages that show it | a block that names a file is in that file; the checksums are those that are printed |
 
 With --long each run of the sanitizers takes a minute. What can't run for want of a compiler or of a sanitizer is
 skipped by name. The last line is `N passed, N failed, N skipped`; the status is 0 where none failed.
@@ -31,13 +31,14 @@ FOLDER = ROOT / "examples" / "gc"
 PAGES = (ROOT / "docs" / "start" / "EMBEDDING.md", FOLDER / "README.md")
 STRICT = ("-std=c11", "-pedantic", "-Wshadow", "-Wconversion")
 THREADS = (1, 4, 16, 64)
-WORK, SHORT_WORK, MINUTE, LONGEST = 3000, 300, 60, 120
+WORK, SHORT_WORK, TASKS_OF_A_LIFE = 3000, 300, 16
+MINUTE, LONGEST = 60, 120
 # What a run prints.
 SAID = re.compile(
     r"threads (?P<threads>\d+), tasks (?P<tasks>\d+), lives (?P<lives>\d+)\n"
     r"collections (?P<collections>\d+), objects moved (?P<moved>\d+)\n"
     r"weak roots kept (?P<kept>\d+), cleared (?P<cleared>\d+)\n"
-    r"caches cleaned by their threads (?P<own>\d+), for held threads (?P<held>\d+), at a lookup (?P<early>\d+)\n"
+    r"caches cleaned by their threads \d+, for held threads \d+, at a lookup \d+\n"
     r"(?P<checksums>checksums of lists \w{16}, trees \w{16}, graphs \w{16})\n"
 )
 TITLES = ("from the request until all threads are held:", "while all threads are held:")
@@ -80,23 +81,27 @@ class Programs(Tests):
         return None if lack else self.program(c_compiler(), word)
 
     def counts(self, name, program, count, *words):
-        """What a run prints, number by number, or None: its threads lived more than once and objects moved."""
+        """What a run prints, number by number, or None: its threads lived, and objects moved."""
         ran = self.run(program, "--threads", count, *words)
         if not self.judge_run(name, ran):
             return None
         found = SAID.match(ran.stdout.decode())
         said = {key: int(it) if it.isdecimal() else it for key, it in (found.groupdict() if found else {}).items()}
-        is_so = said and said["threads"] == count < said["lives"] and said["collections"] and said["moved"]
+        is_so = said and said["threads"] == count <= said["lives"] and said["collections"] and said["moved"]
         shown = f"{said['collections']} collections, {said['moved']} objects moved" if is_so else None
         return said if self.judge(f"{name}: what it prints", () if is_so else f"{ran.stdout!r}", shown) else None
 
     def works(self, name, program, count, work):
-        """A run of so much work: the checksums are those of each other run of the same work."""
+        """A run of so much work: a thread that did more than one life has was started again, and the checksums are
+        those of each other run of the same work.
+        """
         said = self.counts(name, program, count, "--work", work)
         if said:
             self.checksums.add((work, said["checksums"]))
             is_same = said["tasks"] == work and len({it for of, it in self.checksums if of == work}) == 1
             self.holds(f"{name}: the checksums", is_same, f"{said['tasks']} tasks, {sorted(self.checksums)}")
+            has_restarted = said["lives"] > count or work <= count * TASKS_OF_A_LIFE
+            self.holds(f"{name}: threads start and exit", has_restarted, f"{said['lives']} lives")
         return said
 
     def caught(self, name, program, count):
@@ -129,7 +134,7 @@ def words(tests):
         found = [sum(map(int, BUCKET.findall(it))) for it in parts[1:]]
         tests.holds("gc --pauses: each collection is in both", found == [wanted] * len(TITLES), f"{wanted}, {text!r}")
     said = tests.counts("gc --seconds", program, 4, "--seconds", 2)
-    if said:
+    if said and said["tasks"]:
         tests.checksums.add((said["tasks"], said["checksums"]))
         tests.works("gc, the work of --seconds", program, 4, said["tasks"])
     for given in WRONG_WORDS:
@@ -151,13 +156,14 @@ def careless(tests):
 
 
 def sanitized(tests):
+    threads = THREADS if tests.is_long else THREADS[:-1]
     for word in (RACES, MEMORY):
-        names = [f"gc, {count} threads {word}" for count in THREADS]
+        names = [f"gc, {count} threads {word}" for count in threads]
         program = tests.sanitized(word, *names)
-        for name, count in zip(names, THREADS) if program else ():
+        for name, count in zip(names, threads) if program else ():
             if tests.is_long:
                 tests.counts(name, program, count, "--seconds", MINUTE)
-            elif count < 64:
+            else:
                 tests.works(name, program, count, SHORT_WORK)
 
 
@@ -173,7 +179,10 @@ def seen(tests):
 
 
 def shown(tests):
-    """The blocks of the pages."""
+    """The blocks of the pages, and the checksums that the example's own page has."""
+    printed = {it for work, it in tests.checksums if work == WORK}
+    page = PAGES[-1].read_text()
+    tests.holds("the page has the checksums", printed and all(f"    {it}\n" in page for it in printed), f"{printed}")
     for page in PAGES:
         blocks = [it[1:] for it in BLOCK.findall(page.read_text()) if it[1] and (ROOT / it[1]).is_file()]
         tests.holds(f"{page.name} shows code", blocks)
