@@ -78,7 +78,8 @@ static bool await_request(struct coordinator *it) {
 
 /* The pause. The objects move here. The caches of weak roots are cleaned after it, by a handshake of the threads that
    live now. It is submitted here, so it comes before each collection that is asked for later. A handshake asks each
-   stack something, here its depth, and nobody reads the replies. */
+   stack something, here its depth, and nobody reads the replies. A callback may not wait for threads: SP_WAIT waits
+   here only for a lock of the library, which no call keeps. */
 static void run_collection(struct coordinator *it, int64_t census) {
     uint64_t begun = now();
     note_pause(&it->to_hold, begun - take_asked(it));
