@@ -87,6 +87,47 @@ int64_t sp_wait_closed(struct sp_party *party, uint64_t number);
    takes them back. */
 int64_t sp_reclaim(struct sp_party *coordinator, uint64_t serial, sp_callback call, void *with);
 
+/* POLLS IN LINE. Compiled code tests a word: 0, it goes on; else it calls sp_back_edge. The word
+   counts the drives of this process that are going on. sp_drive adds one before its first sp_advance
+   and takes it away at its end, also where it is refused or fails. So do sp_drive_four,
+   sp_at_safepoint and sp_reclaim, which call it. While the word isn't 0, each poll in line of each
+   system goes through sp_back_edge.
+
+   The word is a hint, and no call of safepoint.h reads it. A poll that finds 0 wrongly leaves an
+   armed thread armed: the thread stops at its next poll that finds another number, or at any poll of
+   safepoint.h. So a stop may come later, but nothing else changes.
+
+   What a host must keep: a thread that polls in line alone comes to no stop but those that the calls
+   above drive, and those that the host hints at. A host that calls sp_advance or sp_tell itself calls
+   sp_polls_begin before it and sp_polls_end once the request is closed, or once it gives up. Each
+   sp_polls_begin has one sp_polls_end. Threads that poll in line and those that drive are linked with
+   one copy of this library. */
+struct sp_poll_line {
+    uint32_t drives, unused[15];
+};
+extern struct sp_poll_line sp_polls;
+void sp_polls_begin(void);
+void sp_polls_end(void);
+/* The address of the word that the code of this thread tests, for machine code. The word is read by
+   one load of 32 bits, and only the library writes it. The address is good until the party is freed. */
+const uint32_t *sp_poll_word(const struct sp_party *thread);
+
+/* UNWINDING. Leaves frames by sp_ret, the top one first, until the stack has at most `depth` frames:
+   for an exception or a longjmp, after which the code of these frames doesn't run on. sp_unwind_to
+   returns 0 once that is so, also where the stack has no more frames from the start. Or it returns
+   what the poll of an sp_ret returned: the thread has stopped with that frame gone. It calls sp_stop,
+   and then sp_unwind_to again. The thread must be in Java: SP_ILLEGAL where it isn't, if a frame has
+   to go. sp_unwind_thread stops by itself, goes on to the end, and returns 0. */
+int64_t sp_unwind_to(struct sp_party *thread, size_t depth);
+int64_t sp_unwind_thread(struct sp_party *thread, size_t depth, sp_callback call, void *with);
+
+/* OTHER STACKS. A coroutine is a thread with a party of its own, which is in native code while another
+   one runs on the same thread of the host. sp_switch puts `from` into native code, as sp_enter_native,
+   and takes `to` out of it, as sp_leave_native: it serves what stops `to`, and returns 0. The callback
+   is that of `to`. Refusals come first, and change nothing: SP_NOT_THIS unless both parties are
+   threads, SP_ILLEGAL unless `from` is in Java or the VM and `to` is in native code. */
+int64_t sp_switch(struct sp_party *from, struct sp_party *to, sp_callback call, void *with);
+
 #ifdef __cplusplus
 }
 #endif
@@ -100,5 +141,14 @@ int64_t sp_reclaim(struct sp_party *coordinator, uint64_t serial, sp_callback ca
 #ifdef SP_RECORD
 #include "safepoint_record.h"
 #endif
+
+/* A poll in line: 0 to go on, or what sp_back_edge returns. The thread must be in Java: elsewhere it
+   returns 0 while nothing is driven, and else SP_ILLEGAL. With -DSP_CHECK it makes the call each time. */
+static inline int64_t sp_poll(struct sp_party *thread) {
+#ifndef SP_CHECK
+    if (!__atomic_load_n(&sp_polls.drives, __ATOMIC_RELAXED)) return 0;
+#endif
+    return sp_back_edge(thread);
+}
 
 #endif

@@ -12,6 +12,7 @@ struct late {
 
 /* Until its first wait nobody rings for it. */
 static struct late begin(void) {
+    sp_polls_begin();
     atomic_fetch_add(&sp_waiting.begun, 1);
     struct late it = {atomic_load(&sp_waiting.came), LOOKS, 0};
     atomic_store_explicit(&sp_waiting.wanted, it.came + PLACES, memory_order_relaxed);
@@ -67,6 +68,7 @@ int64_t sp_drive(struct sp_party *coordinator, sp_callback call, void *with) {
             break;
         }
     }
+    sp_polls_end();
     ring(&sp_waiting.gone);
     atomic_fetch_add(&sp_waiting.ended, 1);
     PROBE(request__end, (int64_t)coordinator, answer);
