@@ -4,7 +4,7 @@
    is called most: the new code is installed over the one in use, and the pages of the old one are unmapped. With --careless they are unmapped
    at once: a thread that stands in them dies of it within a second. Without, the compiler asks libsafepoint.a when no thread stands in them or
    can enter them any more, and a run never faults. Read it from the top: a program, an interpreter, a compiler, the threads, the compiler
-   thread. What a runtime owes the library stands in `enter`, `leave`, `edge` and `recompile`. */
+   thread. What a runtime owes the library stands in `enter`, `leave`, `edge`, `put_poll` and `recompile`. */
 #define _GNU_SOURCE
 #include <pthread.h>
 #include <stdatomic.h>
@@ -113,11 +113,15 @@ enum { VALUES = 4096, LOOPS = 1024 };
 struct thread {
     int64_t *values, *loops; /* behind the top of each stack; machine code has them in r12 and r13 */
     int64_t called;          /* the word that is entered */
+    const uint32_t *poll;    /* what its back edges test */
     struct sp_party party;
     pthread_t id;
     long runs;
     int64_t value_stack[VALUES], loop_stack[LOOPS];
 };
+
+enum { POLL = 24 }; /* in machine code, where rbx is the thread */
+_Static_assert(offsetof(struct thread, poll) == POLL, "where machine code finds the address");
 
 /* --- what each call, return and back edge does; interpreted and compiled code call these --- */
 
@@ -143,6 +147,7 @@ static void *enter(struct thread *thread, int64_t word) {
 
 static void leave(struct thread *thread) { polled(thread, sp_ret(&thread->party)); }
 
+/* The slow way of a back edge in machine code, where the word that this tests isn't 0. */
 static void edge(struct thread *thread) { polled(thread, sp_back_edge(&thread->party)); }
 
 /* --- the interpreter --- */
@@ -176,7 +181,7 @@ static void interpret(struct thread *thread) {
             if (thread->loops[-1] <= 0) thread->loops--, at = (int)step->value;
             break;
         case END_TIMES:
-            edge(thread);
+            polled(thread, sp_poll(&thread->party));
             if (--thread->loops[-1] > 0) at = (int)step->value;
             else thread->loops--;
             break;
@@ -234,7 +239,28 @@ static void land(struct pages *to, size_t jump, size_t target) {
     memcpy(to->at + jump - 4, &distance, 4);
 }
 
-enum { JE = 0x84, JLE = 0x8e, JG = 0x8f };
+enum { JE = 0x84, JNE = 0x85, JLE = 0x8e, JG = 0x8f };
+
+/* The polls of a word: where the code goes on behind the jump of each. */
+struct polls {
+    size_t behind[MOST_STEPS];
+    int count;
+};
+
+/* mov rax,[rbx+POLL]; cmp dword [rax],0; jne to a slow way, which `put_slow_ways` puts behind the code */
+static void put_poll(struct pages *to, struct polls *polls) {
+    EMIT(to, 0x48, 0x8b, 0x43, POLL, 0x83, 0x38, 0x00);
+    polls->behind[polls->count++] = put_jump(to, JNE);
+}
+
+static void put_slow_ways(struct pages *to, const struct polls *polls) {
+    for (int i = 0; i < polls->count; i++) {
+        land(to, polls->behind[i], to->used);
+        put_call(to, (void *)edge);
+        EMIT(to, 0xe9, 0, 0, 0, 0); /* jmp behind the poll */
+        land(to, to->used, polls->behind[i]);
+    }
+}
 
 static void put_pop_into_top(struct pages *to) { EMIT(to, 0x49, 0x8b, 0x44, 0x24, 0xf8, 0x49, 0x83, 0xec, 0x08); /* mov rax,[r12-8]; sub r12,8 */ }
 
@@ -258,7 +284,7 @@ struct open {
     size_t body, jump;
 };
 
-static void compile_step(struct pages *to, const struct step *step, struct open *open, int *depth) {
+static void compile_step(struct pages *to, const struct step *step, struct open *open, int *depth, struct polls *polls) {
     switch (step->kind) {
     case PUSH:
         EMIT(to, 0x48, 0xb8); /* mov rax, NUMBER */
@@ -282,8 +308,8 @@ static void compile_step(struct pages *to, const struct step *step, struct open 
         open[*depth].jump = put_jump(to, JLE);
         open[(*depth)++].body = to->used;
         break;
-    case END_TIMES: /* dec qword [r13-8]; jg body; past: sub r13,8 */
-        put_call(to, (void *)edge);
+    case END_TIMES: /* a poll; dec qword [r13-8]; jg body; past: sub r13,8 */
+        put_poll(to, polls);
         EMIT(to, 0x49, 0xff, 0x4d, 0xf8);
         land(to, put_jump(to, JG), open[--*depth].body);
         land(to, open[*depth].jump, to->used);
@@ -307,9 +333,11 @@ static struct pages sealed(struct pages pages) {
 static struct pages compiled(const struct word *word) {
     struct pages to = new_pages((size_t)sysconf(_SC_PAGESIZE));
     struct open open[MOST_OPEN];
+    struct polls polls = {.count = 0};
     int depth = 0;
     EMIT(&to, 0x48, 0x83, 0xec, 0x08); /* sub rsp,8: calls have the stack aligned */
-    for (int i = 0; i < word->count; i++) compile_step(&to, &word->steps[i], open, &depth);
+    for (int i = 0; i < word->count; i++) compile_step(&to, &word->steps[i], open, &depth, &polls);
+    put_slow_ways(&to, &polls);
     return sealed(to);
 }
 
@@ -334,6 +362,7 @@ static int64_t wanted; /* what main leaves */
 static int64_t run_main(struct thread *thread) {
     thread->values = thread->value_stack;
     thread->loops = thread->loop_stack;
+    thread->poll = sp_poll_word(&thread->party);
     call_word(thread, word_named("main"));
     return thread->values[-1];
 }

@@ -9,8 +9,8 @@
    - another thread is in a call with the party. A call of safepoint_wait.h lasts as long as its
      callbacks. So does a call that a signal handler or a jump out of a callback interrupts;
    - a callback calls with the thread that it is for, or makes a call of safepoint_wait.h that waits
-     for threads (sp_stop and all below it). SP_WAIT isn't looked at. Nor is what a host runs by
-     itself for sp_stop_next or sp_advance;
+     for threads (those from sp_stop to sp_reclaim, sp_unwind_thread and sp_switch). SP_WAIT isn't
+     looked at. Nor is what a host runs by itself for sp_stop_next or sp_advance;
    - the party is a copy, or was freed: it isn't where sp_make or sp_fork put it;
    - a forked child calls with a party of a system that its parent made. */
 #ifndef SAFEPOINT_CHECK_H
@@ -85,6 +85,9 @@ int64_t sp_checked_at_safepoint(struct sp_party *coordinator, sp_callback call, 
 int64_t sp_checked_wait_closed(struct sp_party *party, uint64_t number);
 int64_t sp_checked_reclaim(struct sp_party *coordinator, uint64_t serial, sp_callback call,
                            void *with);
+int64_t sp_checked_unwind_to(struct sp_party *thread, size_t depth);
+int64_t sp_checked_unwind_thread(struct sp_party *thread, size_t depth, sp_callback call, void *with);
+int64_t sp_checked_switch(struct sp_party *from, struct sp_party *to, sp_callback call, void *with);
 
 /* A party that was made elsewhere stands here, and no longer there: safepoint.hpp moves parties. */
 void sp_checked_moved(struct sp_party *party);
@@ -155,6 +158,9 @@ void sp_checked_moved(struct sp_party *party);
 #define sp_at_safepoint sp_checked_at_safepoint
 #define sp_wait_closed sp_checked_wait_closed
 #define sp_reclaim sp_checked_reclaim
+#define sp_unwind_to sp_checked_unwind_to
+#define sp_unwind_thread sp_checked_unwind_thread
+#define sp_switch sp_checked_switch
 #endif
 
 #endif

@@ -115,9 +115,10 @@ const uint32_t *sp_poll_word(const struct sp_party *thread);
 /* UNWINDING. Leaves frames by sp_ret, the top one first, until the stack has at most `depth` frames:
    for an exception or a longjmp, after which the code of these frames doesn't run on. sp_unwind_to
    returns 0 once that is so, also where the stack has no more frames from the start. Or it returns
-   what the poll of an sp_ret returned: the thread has stopped with that frame gone. It calls sp_stop,
-   and then sp_unwind_to again. The thread must be in Java: SP_ILLEGAL where it isn't, if a frame has
-   to go. sp_unwind_thread stops by itself, goes on to the end, and returns 0. */
+   what the poll of an sp_ret returned: the thread has stopped, and that frame is gone. Then the caller
+   calls sp_stop, and sp_unwind_to again. It is called from Java: SP_ILLEGAL from other states, and
+   SP_NOT_THIS if the party is no thread. sp_unwind_thread stops by itself, goes on to the end, and
+   returns 0. */
 int64_t sp_unwind_to(struct sp_party *thread, size_t depth);
 int64_t sp_unwind_thread(struct sp_party *thread, size_t depth, sp_callback call, void *with);
 

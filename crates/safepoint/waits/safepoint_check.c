@@ -292,6 +292,20 @@ WAITS(drive_four, (struct sp_party *coordinator, sp_callback call, void *with), 
 WAITS(at_safepoint, (struct sp_party *coordinator, sp_callback call, void *with), (coordinator, run, host), coordinator)
 WAITS(reclaim, (struct sp_party *coordinator, uint64_t serial, sp_callback call, void *with),
       (coordinator, serial, run, host), coordinator)
+CHECKED(unwind_to, (struct sp_party *thread, size_t depth), (thread, depth), thread)
+WAITS(unwind_thread, (struct sp_party *thread, size_t depth, sp_callback call, void *with),
+      (thread, depth, run, host), thread)
+
+/* A switch from a party to itself is refused, and so the party is entered once. */
+int64_t sp_checked_switch(struct sp_party *from, struct sp_party *to, sp_callback call, void *with) {
+    struct entered it = enter_wait("sp_switch", to), none = {NULL, NULL};
+    struct entered other = from == to ? none : enter_wait("sp_switch", from);
+    struct host host = {call, with, it.note};
+    int64_t answer = sp_switch(from, to, call && it.note ? called : NULL, &host);
+    leave(other);
+    leave(it);
+    return answer;
+}
 
 int64_t sp_checked_start_thread(struct sp_party *thread, sp_callback call, void *with) {
     struct entered it = enter_wait("sp_start_thread", thread);
