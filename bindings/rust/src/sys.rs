@@ -20,6 +20,9 @@ pub struct Served {
 /// The kind of a census; a handshake's is 1.
 pub const CENSUS: c_int = 2;
 
+/// The state of a thread in native code.
+pub const IN_NATIVE: i64 = 3;
+
 /// How long a loop has waited: all zeros at first.
 #[repr(C)]
 #[derive(Default)]
@@ -46,6 +49,7 @@ extern "C" {
     pub fn sp_at_safepoint(coordinator: *mut Party, call: Callback, with: *mut c_void) -> i64;
     pub fn sp_name(thread: *mut Party) -> i64;
     pub fn sp_place(thread: *mut Party) -> i64;
+    pub fn sp_state(thread: *mut Party) -> i64;
     pub fn sp_call(thread: *mut Party, method: u32) -> i64;
     pub fn sp_ret(thread: *mut Party) -> i64;
     pub fn sp_back_edge(thread: *mut Party) -> i64;
@@ -83,6 +87,10 @@ extern "C" {
     pub fn sp_leave_native(thread: *mut Party, call: Callback, with: *mut c_void) -> i64;
     pub fn sp_enter_blocked(thread: *mut Party) -> i64;
     pub fn sp_leave_blocked(thread: *mut Party, call: Callback, with: *mut c_void) -> i64;
+    pub fn sp_polls_begin();
+    pub fn sp_polls_end();
+    pub fn sp_poll_word(thread: *const Party) -> *const u32;
+    pub fn sp_switch(from: *mut Party, to: *mut Party, call: Callback, with: *mut c_void) -> i64;
     pub fn sp_drive(coordinator: *mut Party, call: Callback, with: *mut c_void) -> i64;
     pub fn sp_drive_four(coordinator: *mut Party, call: Callback, with: *mut c_void) -> i64;
     pub fn sp_reclaim(

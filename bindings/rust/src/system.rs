@@ -76,6 +76,27 @@ pub enum Next {
 #[derive(Debug)]
 pub struct Safepoints {
     party: Party,
+    /// From the first [`advance`](Safepoints::advance) for a request to the last.
+    hint: Option<Hint>,
+}
+
+/// While it lives, each poll in line goes the slow way.
+#[derive(Debug)]
+struct Hint;
+
+impl Hint {
+    fn new() -> Hint {
+        // SAFETY: it takes nothing.
+        unsafe { sys::sp_polls_begin() };
+        Hint
+    }
+}
+
+impl Drop for Hint {
+    fn drop(&mut self) {
+        // SAFETY: it takes nothing, and `new` has begun.
+        unsafe { sys::sp_polls_end() };
+    }
 }
 
 impl Safepoints {
@@ -88,7 +109,7 @@ impl Safepoints {
         let party = Party::none();
         // SAFETY: the pointer is that of a party, which isn't made yet.
         answer(unsafe { sys::sp_make(party.raw(), places, slots, methods) })?;
-        Ok(Safepoints { party })
+        Ok(Safepoints { party, hint: None })
     }
 
     /// Works the oldest request to its Close, and answers its number.
@@ -149,10 +170,14 @@ impl Safepoints {
     /// # Errors
     /// Those of [`drive`](Safepoints::drive).
     pub fn advance(&mut self) -> Result<Next, Refusal> {
+        let hint = self.hint.take().unwrap_or_else(Hint::new);
         let said = wait(|| self.party.once(sys::sp_advance));
         // The call may have let threads go.
         // SAFETY: it takes nothing.
         unsafe { sys::sp_ring() };
+        if let Err(Refusal::Run | Refusal::AtSafepoint | Refusal::Awaits) = said {
+            self.hint = Some(hint);
+        }
         match said {
             Ok(number) => Ok(Next::Closed(number)),
             Err(Refusal::Run) => self.called().map(Next::Run),
@@ -224,7 +249,9 @@ impl Safepoints {
         call: impl FnOnce(*mut sys::Party, sys::Callback, *mut c_void) -> i64,
     ) -> Ran {
         let party = self.party.raw();
-        with_callback(callback, |run, with| call(party, run, with))
+        let ran = with_callback(callback, |run, with| call(party, run, with));
+        self.hint = None;
+        ran
     }
 }
 

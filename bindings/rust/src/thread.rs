@@ -1,4 +1,6 @@
 //! The threads of a system.
+mod inline;
+
 use crate::callback::{with_callback, Ran, Served};
 use crate::party::Party;
 use crate::refusal::Refusal;
@@ -7,6 +9,8 @@ use crate::waiting::answer;
 use std::fmt;
 use std::marker::PhantomData;
 use std::ops::Deref;
+use std::ptr::NonNull;
+use std::sync::atomic::AtomicU32;
 
 /// A running thread of the system. It stays with the thread of the host that started it, and exits where it is dropped.
 ///
@@ -54,6 +58,8 @@ pub struct Thread<'a> {
     place: usize,
     /// How many methods it has entered and not left.
     depth: usize,
+    /// What its polls test; of an exited thread a word that sends each poll the slow way.
+    word: NonNull<AtomicU32>,
     callback: Box<dyn FnMut(Served) + 'a>,
     stays: PhantomData<*mut ()>,
 }
@@ -73,6 +79,7 @@ impl<'a> Thread<'a> {
             name,
             place: party.once(sys::sp_place) as usize,
             depth: 0,
+            word: inline::word_of(&party),
             party,
             callback,
             stays: PhantomData,
@@ -170,18 +177,6 @@ impl<'a> Thread<'a> {
         self.leave_top().resume().map(drop)
     }
 
-    /// Polls: a safe point, where the thread serves the operations that wait for it. Loops call it at each turn.
-    ///
-    /// # Errors
-    /// `safepoint.h` lists none for a thread that hasn't exited.
-    ///
-    /// # Panics
-    /// Where a callback panics. The thread may go on then.
-    pub fn poll(&mut self) -> Result<(), Refusal> {
-        let polled = self.party.once(sys::sp_back_edge);
-        self.stopped_by(polled).resume().map(drop)
-    }
-
     /// Publishes which codes have frames on the stack. Call it now and then: it lets old code be freed sooner.
     ///
     /// # Errors
@@ -254,7 +249,11 @@ impl<'a> Thread<'a> {
     /// # Panics
     /// Where a callback panics. The thread has exited then.
     pub fn exit(&mut self) -> Result<(), Refusal> {
-        self.serving(sys::sp_exit_thread).resume().map(drop)
+        let ran = self.serving(sys::sp_exit_thread);
+        if ran.answer().is_ok() {
+            self.word = inline::slow_word();
+        }
+        ran.resume().map(drop)
     }
 
     fn within_vm<T>(
@@ -357,13 +356,14 @@ impl fmt::Debug for Thread<'_> {
 }
 
 impl Drop for Thread<'_> {
-    /// Leaves all methods and exits. A thread that doesn't exit keeps its place, and each request of its name waits for
+    /// Comes back from native code, leaves all methods and exits. A thread that doesn't exit keeps its place, and each request of its name waits for
     /// it; no call of this crate leaves a thread so.
     fn drop(&mut self) {
         if self.party.once(sys::sp_name) <= 0 {
             return;
         }
-        let left = self.leave_down_to(0);
+        let back = self.brought_back();
+        let left = back.then(self.leave_down_to(0));
         if let Err(refusal) = left.then(self.serving(sys::sp_exit_thread)).answer() {
             eprintln!("thread {} doesn't exit: {refusal}", self.name);
         }

@@ -125,6 +125,27 @@ protected:
     sp_party party_{};
 };
 
+/* While it is on, each poll in line goes the slow way (safepoint_wait.h): for a host that calls sp_tell or sp_advance
+   itself. */
+class Hint {
+public:
+    explicit Hint(bool is_on = true) noexcept { set(is_on); }
+    Hint(Hint &&other) noexcept : is_on_(std::exchange(other.is_on_, false)) {}
+    Hint &operator=(Hint &&other) noexcept {
+        std::swap(is_on_, other.is_on_);
+        return *this;
+    }
+    ~Hint() { set(false); }
+    void set(bool is_on) noexcept {
+        if (is_on && !is_on_) sp_polls_begin();
+        if (is_on_ && !is_on) sp_polls_end();
+        is_on_ = is_on;
+    }
+
+private:
+    bool is_on_ = false;
+};
+
 /* A system, as its coordinator. */
 class System : public Party {
 public:
@@ -134,30 +155,32 @@ public:
 
     /* Works the oldest request to its Close: its number. */
     std::uint64_t drive(Callback callback = {}) {
-        return must(sp_drive(&party_, at_safe_point, &callback));
+        return ended(sp_drive(&party_, at_safe_point, &callback));
     }
     std::uint64_t drive_four(Callback callback = {}) {
-        return must(sp_drive_four(&party_, at_safe_point, &callback));
+        return ended(sp_drive_four(&party_, at_safe_point, &callback));
     }
     /* Runs a VM operation: the callback runs once while all live threads are held (its `kind` is
        SP_CENSUS), and for the targets of handshakes that were submitted before. */
     std::uint64_t at_safepoint(Callback callback) {
-        return must(sp_at_safepoint(&party_, at_safe_point, &callback));
+        return ended(sp_at_safepoint(&party_, at_safe_point, &callback));
     }
     /* For a host with its own waits: works on the oldest request as far as that goes without
        waiting, and says what comes next. `closed`: it is closed. `run`: the host runs its callback
        for what `called` tells. `at_safepoint`: all live threads are held, and the host runs its VM
-       operation. `awaits`: so many threads have still to come as `awaited` tells. */
+       operation. `awaits`: so many threads have still to come as `awaited` tells. From the first
+       call for a request until it is closed, or a call throws, polls in line go the slow way. */
     enum class Next { closed, run, at_safepoint, awaits };
     Next advance() {
         std::int64_t answer;
+        hint_.set(true);
         SP_WAIT(answer, sp_advance(&party_));
         sp_ring();
         kind_ = answer == SP_AT_SAFEPOINT ? SP_CENSUS : SP_HANDSHAKE;
         if (answer == SP_RUN) return Next::run;
         if (answer == SP_AT_SAFEPOINT) return Next::at_safepoint;
         if (answer == SP_AWAITS) return Next::awaits;
-        must(answer);
+        ended(answer);
         return Next::closed;
     }
     sp_served called() {
@@ -170,12 +193,19 @@ public:
     enum class Code { freed, used, late };
     Code reclaim(std::uint64_t serial, Callback callback = {}) {
         std::int64_t answer = sp_reclaim(&party_, serial, at_safe_point, &callback);
+        hint_.set(false);
         if (answer == SP_LATE) return Code::late;
         return must(answer) ? Code::used : Code::freed;
     }
 
 private:
+    std::uint64_t ended(std::int64_t answer) {
+        hint_.set(false);
+        return must(answer);
+    }
+
     int kind_ = SP_HANDSHAKE; /* of what `called` tells */
+    Hint hint_{false};        /* on from the first `advance` for a request to the last */
 };
 
 /* The thread that makes it, as long as it stands: it starts, serves what it is told with its
@@ -192,8 +222,7 @@ public:
     Thread &operator=(const Thread &) = delete;
     ~Thread() {
         bring_back();
-        while (sp_ret(get()) >= 0 || sp_state(get()) == SP_AT_POLL)
-            if (sp_state(get()) == SP_AT_POLL) sp_stop(get(), at_safe_point, &callback_);
+        sp_unwind_thread(get(), 0, at_safe_point, &callback_);
         sp_exit_thread(get(), at_safe_point, &callback_);
     }
 
@@ -202,8 +231,32 @@ public:
     std::size_t place() { return static_cast<std::size_t>(must(sp_place(get()))); }
     /* To ask with: a running thread may ask what any party may. */
     Party &party() noexcept { return party_; }
-    void poll() { polled(sp_back_edge(get())); }
+    /* A poll in line. */
+    void poll() { polled(sp_poll(get())); }
+    /* The word that machine code of this thread tests: 0 to go on, else it calls `back_edge`. */
+    const std::uint32_t *poll_word() noexcept { return sp_poll_word(get()); }
+    void back_edge() { polled(sp_back_edge(get())); }
     void publish() { must(sp_publish(get())); }
+
+    /* For machine code and interpreters, whose frames are no scopes. `enter` returns the serial of
+       the code to run, or 0; `leave` leaves the top frame, and polls. */
+    std::uint64_t enter(std::uint32_t method) { return must(sp_call(get(), method)); }
+    void leave() { polled(sp_ret(get())); }
+    /* How many frames the stack has. */
+    std::size_t depth() { return static_cast<std::size_t>(must(sp_depth(get()))); }
+    /* Leaves frames, the top one first, until there are at most so many. */
+    void unwind_to(std::size_t depth) {
+        must(sp_unwind_thread(get(), depth, at_safe_point, &callback_));
+    }
+
+    /* For coroutines, each of which has a Thread of its own on one thread of the host. `suspend` puts
+       this one into native code until a `switch_to` brings it back. `switch_to` puts this one into native
+       code and brings the other back, which serves what stops it. A Thread that ends comes back first. */
+    void suspend() { must(sp_enter_native(get())); }
+    void switch_to(Thread &other) {
+        must(sp_switch(get(), other.get(), at_safe_point, &other.callback_));
+    }
+    void resume() { must(sp_leave_native(get(), at_safe_point, &callback_)); }
 
     /* A frame of a method, from the call to the return: the serial of its code, 0 where it is
        interpreted. */
@@ -218,6 +271,23 @@ public:
 
     private:
         Thread &thread_;
+        std::uint64_t serial_;
+    };
+
+    /* A frame as Frame, around machine code that enters further frames. Its end leaves these too, where
+       an exception or a jump has left the machine code. */
+    class Call {
+    public:
+        Call(Thread &thread, std::uint32_t method)
+            : thread_(thread), depth_(thread.depth()), serial_(thread.enter(method)) {}
+        Call(const Call &) = delete;
+        Call &operator=(const Call &) = delete;
+        ~Call() { sp_unwind_thread(thread_.get(), depth_, at_safe_point, &thread_.callback_); }
+        std::uint64_t serial() const noexcept { return serial_; }
+
+    private:
+        Thread &thread_;
+        std::size_t depth_;
         std::uint64_t serial_;
     };
 
@@ -269,6 +339,7 @@ private:
         if (polled > 0) sp_stop(get(), at_safe_point, &callback_);
     }
     void bring_back() noexcept {
+        if (sp_state(get()) == SP_AT_POLL) sp_stop(get(), at_safe_point, &callback_);
         if (sp_state(get()) == SP_IN_NATIVE) sp_leave_native(get(), at_safe_point, &callback_);
         if (sp_state(get()) == SP_BLOCKED) sp_leave_blocked(get(), at_safe_point, &callback_);
         if (sp_state(get()) == SP_IN_VM) stop_if(sp_from_vm(get()));

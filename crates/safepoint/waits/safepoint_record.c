@@ -1,7 +1,7 @@
 /* The recorder of safepoint_record.h. */
 #ifdef SP_RECORD
 #define SP_RECORDER
-#include "safepoint_record.h"
+#include "safepoint_wait.h"
 
 #include <sched.h>
 #include <stdarg.h>
