@@ -62,6 +62,7 @@ safepoint:
 	@tests/build.py model safepoint
 	@tests/safepoint.py crates/safepoint/out/libsafepoint.a
 	@tests/collector.py crates/safepoint/out/libsafepoint.a
+	@tests/inline.py crates/safepoint/out/libsafepoint.a
 
 embed:
 	@tests/build.py model

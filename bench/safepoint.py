@@ -1,10 +1,11 @@
 #!/usr/bin/env python3
-"""Times the calls and the stops of threads of C: safepoint.py [LIBSAFEPOINT [PROGRAM]] [calls|stops ..]
+"""Times the calls and the stops of threads of C: safepoint.py [LIBSAFEPOINT [PROGRAM]] [polls|calls|stops ..]
 
 LIBSAFEPOINT is crates/safepoint/out/libsafepoint.a by default, PROGRAM is crates/bench_running/out/bench_running. Where
 PROGRAM is there, it runs the same loops in turn, inside Rattle, and each row has the ratio of the two. A row of calls
 has nanoseconds a turn, the least and the median of seven runs on one core, and how much the least of C exceeds the
-least of PROGRAM. A row of stops has microseconds, the median and the 99th percentile of the stops of three runs. The C
+least of PROGRAM. A row of stops has microseconds, the median and the 99th percentile of the stops of three runs. A row
+of polls has a loop of C alone, in processor time, and how much its least exceeds that of an empty loop. The C
 compiler builds safepoint/measure.c with -O2, without link-time optimization, so that each call of C is a call.
 
 Compare only ratios of one run: the same machine differs by a factor of two from minute to minute.
@@ -37,6 +38,14 @@ CALLS = [
     ("into native code and back", 5, 1_000_000, 0, "1.5 times"),
 ]
 
+# What, the kind, turns, how many are in a turn, and what is wanted at most beside an empty loop.
+POLLS = [
+    ("empty loop", 30, 20_000_000, 1, "-"),
+    ("poll in line", 31, 20_000_000, 1, "1 ns more"),
+    ("back edge", 32, 5_000_000, 1, "-"),
+    ("switch of coroutines", 33, 500_000, 2, "-"),
+]
+
 STOPS = [("handshake", 6), ("census", 7), ("reclaim", 8)]
 
 THREADS = (1, 4, 16, 64)
@@ -45,6 +54,8 @@ THREADS = (1, 4, 16, 64)
 BUSY = {1: 300, 4: 60, 16: 15, 64: 15}
 
 WANTED = "2 times"
+
+TABLES = ["polls", "calls", "stops"]
 
 
 def kit():
@@ -86,6 +97,18 @@ def call_row(programs, row):
     print(line, flush=True)
 
 
+def poll_rows(program):
+    """All loops in turn, seven times."""
+    found = [[] for _ in POLLS]
+    with one_core():
+        for _ in range(7):
+            for values, (_, kind, turns, each, _) in zip(found, POLLS):
+                values.append(statistics.mean(times([program, kind, 1, turns, 0])) / turns / each)
+    for values, (what, _, _, _, wanted) in zip(found, POLLS):
+        more = min(values) - min(found[0])
+        print(f"{what:34} {min(values):9.2f} {statistics.median(values):9.2f} {more:9.2f}   {wanted}", flush=True)
+
+
 def stop_row(programs, what, kind, threads, native):
     found = [[] for _ in programs]
     for _ in range(3):
@@ -101,14 +124,17 @@ def stop_row(programs, what, kind, threads, native):
 
 def main():
     words = sys.argv[1:]
-    tables = [word for word in words if word in ("calls", "stops")] or ["calls", "stops"]
-    rest = [pathlib.Path(word).resolve() for word in words if word not in ("calls", "stops")]
+    tables = [word for word in words if word in TABLES] or TABLES
+    rest = [pathlib.Path(word).resolve() for word in words if word not in TABLES]
     library, program = [*rest, *[LIBRARY, PROGRAM][len(rest) :]][:2]
     if shutil.which(os.environ.get("CC", "cc")) is None:
         sys.exit("there is no C compiler")
     with tempfile.TemporaryDirectory() as folder:
         programs = [built(library, folder), *([program] if program.is_file() else [])]
         beside = f" {'Rattle':>9} {'':>9} {'more':>7} {'times':>7}   wanted" if len(programs) > 1 else ""
+        if "polls" in tables:
+            print(f"{'ns a turn: least, median':34} {'C':>9} {'':>9} {'more':>9}   wanted")
+            poll_rows(programs[0])
         if "calls" in tables:
             print(f"{'ns a turn: least, median':34} {'C':>9} {'':>9}{beside}")
             for row in CALLS:

@@ -1,6 +1,6 @@
 """Makes the files of a library that is installed: its archive and its shared library, of what is built.
 
-From outside they show the functions that the headers declare, and nothing else. So two of these libraries link beside
+From outside they show what the headers declare, and nothing else. So two of these libraries link beside
 one another, also where a linker takes each archive whole.
 """
 import os
@@ -13,13 +13,13 @@ CRATES = ROOT / "crates"
 INCLUDE, WAITS = CRATES / "safepoint" / "include", CRATES / "safepoint" / "waits"
 WAIT_LIBRARY = "libsafepoint_wait.a"
 VERSION = (ROOT / "VERSION").read_text().strip()
-# The headers whose functions a library shows.
+# The headers whose names a library shows.
 HEADERS = {
     "safepoint": (INCLUDE / "safepoint.h", INCLUDE / "safepoint_wait.h"),
     "model": (CRATES / "model" / "include" / "model.h",),
 }
 NO_FUNCTION = re.compile(r"/\*.*?\*/|^#(?:[^\n]*\\\n)*[^\n]*$", re.DOTALL | re.MULTILINE)
-DECLARED = re.compile(r"^\w[\w *]*?\b(\w+)\(", re.MULTILINE)
+DECLARED = re.compile(r"^(?:(?!static)\w[\w *]*?\b(?=\w+\()|extern struct \w+ (?=\w+;))(\w+)", re.MULTILINE)
 
 
 class Unlinked(Exception):
@@ -41,7 +41,7 @@ def archiver():
 
 
 def declared(*headers):
-    """The functions that headers declare."""
+    """The functions that headers declare, and the words that they share with a host. (What is static is the host's.)"""
     return [name for it in headers for name in DECLARED.findall(NO_FUNCTION.sub("", it.read_text()))]
 
 

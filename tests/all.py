@@ -53,6 +53,7 @@ ALONE = (
     (("embed.py", MODEL), ("model",)),
     (("safepoint.py", SAFEPOINT, MODEL), ("safepoint", "model")),
     (("collector.py", SAFEPOINT), ("safepoint",)),
+    (("inline.py", SAFEPOINT), ("safepoint",)),
     (("stacks.py", SAFEPOINT), ("safepoint",)),
     (("header.py", SAFEPOINT), ("safepoint",)),
     (("watching.py", SAFEPOINT), ("safepoint",)),

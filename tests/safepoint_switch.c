@@ -1,5 +1,5 @@
-/* Coroutines without stacks of their own: safepoint_switch THREADS ROUNDS. First each answer of sp_switch; then threads of
-   the host each of which switches between some parties, while a coordinator stops all of them. It ends by itself.
+/* Coroutines without stacks of their own: safepoint_switch THREADS ROUNDS. First each answer of sp_switch; then threads
+   of the host each of which switches between some parties, while a coordinator stops all of them. It ends by itself.
    tests/inline.py builds and runs it. */
 #include <pthread.h>
 #include <sched.h>

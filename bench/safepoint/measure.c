@@ -1,6 +1,6 @@
 /* How long the calls and the stops of safepoint.h take: measure KIND THREADS TURNS ARG prints times in nanoseconds, separated by spaces, and
-   nothing else. The kinds, their loops and what they answer are those of crates/bench_running, which makes them in Rattle: bench/safepoint.py
-   runs the two in turn. */
+   nothing else. The kinds up to 12, their loops and what they answer are those of crates/bench_running, which makes them in Rattle:
+   bench/safepoint.py runs the two in turn. The others are loops of C alone. */
 #include <pthread.h>
 #include <stdatomic.h>
 #include <stdio.h>
@@ -9,7 +9,8 @@
 
 #include "safepoint_wait.h"
 
-enum kind { BACK_EDGE = 1, CALL = 2, DEEP = 3, PUBLISH = 4, NATIVE = 5, HANDSHAKE = 6, CENSUS = 7, RECLAIM = 8, INTERPRETED = 12 };
+enum kind { BACK_EDGE = 1, CALL = 2, DEEP = 3, PUBLISH = 4, NATIVE = 5, HANDSHAKE = 6, CENSUS = 7, RECLAIM = 8, INTERPRETED = 12,
+            EMPTY = 30, POLL = 31, CALLED_POLL = 32, SWITCH = 33 };
 enum { MOST = 64, SLOTS = 1024, METHODS = 256, METHOD = 3, OLD = 1, WARM_UP = 2, LONGEST = 6 /* seconds of a run of stops */, BATCH = 64 };
 
 static struct sp_party coordinator;
@@ -23,9 +24,10 @@ static int64_t must(int64_t answer) {
     exit(1);
 }
 
+/* The loops of C alone are timed by processor time. */
 static uint64_t now(void) {
     struct timespec time;
-    clock_gettime(CLOCK_MONOTONIC, &time);
+    clock_gettime(kind < EMPTY ? CLOCK_MONOTONIC : CLOCK_THREAD_CPUTIME_ID, &time);
     return (uint64_t)time.tv_sec * 1000000000 + (uint64_t)time.tv_nsec;
 }
 
@@ -61,13 +63,32 @@ static void turn_of(struct sp_party *thread) {
     }
 }
 
+/* The turn of a loop that a compiler leaves as it is. */
+#define TURNS(...) for (long i = 0; i < turns; i++) { __VA_ARGS__; __asm__ volatile("" ::: "memory"); }
+
+static void poll_of(struct sp_party *thread, struct sp_party *other) {
+    switch (kind) {
+    case EMPTY: TURNS() break;
+    case POLL: TURNS(if (sp_poll(thread)) exit(1)) break;
+    case CALLED_POLL: TURNS(if (sp_back_edge(thread)) exit(1)) break;
+    default: TURNS(must(sp_switch(thread, other, NULL, NULL)), must(sp_switch(other, thread, NULL, NULL)))
+    }
+}
+
 static void time_calls(void) {
-    struct sp_party thread = {0};
+    struct sp_party thread = {0}, other = {0};
     must(sp_fork(&coordinator, &thread));
+    must(sp_fork(&coordinator, &other));
+    must(sp_start_thread(&other, NULL, NULL));
+    must(sp_enter_native(&other));
     must(sp_start_thread(&thread, NULL, NULL));
     uint64_t start = now();
-    turn_of(&thread);
+    if (kind < EMPTY) turn_of(&thread);
+    else poll_of(&thread, &other);
     printf("%llu\n", (unsigned long long)(now() - start));
+    must(sp_leave_native(&other, NULL, NULL));
+    must(sp_exit_thread(&other, NULL, NULL));
+    sp_free(&other);
     must(sp_publish(&thread));
     must(sp_exit_thread(&thread, NULL, NULL));
     sp_free(&thread);
