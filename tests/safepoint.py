@@ -64,6 +64,8 @@ MISUSES = {
     "copy": ("sp_census", r"it is a copy of the party 0x[0-9a-f]+"),
     "copy_of_freed": ("sp_census", f"it is a copy of a party that was freed, or no call with {CHECK} made it"),
     "forked_child": ("sp_drive", r"process \d+ made its system, and this is process \d+"),
+    "joined_in_child": ("sp_census", r"process \d+ made its system, and this is process \d+"),
+    "copied_system": ("sp_system_join", r"it is a copy of the party 0x[0-9a-f]+"),
 }
 # ThreadSanitizer doesn't see the library's locks: its blocks go from thread to thread under them. Its functions alone
 # have `::` in their names.

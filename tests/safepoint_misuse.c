@@ -121,6 +121,30 @@ static void forked_child(void) {
     if (WIFSIGNALED(status)) raise(WTERMSIG(status));
 }
 
+/* A party that joined a system: what the system itself has isn't made in the child. */
+static void joined_in_child(void) {
+    static struct sp_system joined;
+    int status;
+    must(sp_system_make(&joined, 1, 1, 1));
+    must(sp_system_join(&joined, &client));
+    tell(&client);
+    if (fork() == 0) {
+        if (sp_census(sp_system_coordinator(&joined)) != SP_NOT_THIS) _exit(3);
+        sp_census(&client);
+        _exit(0);
+    }
+    wait(&status);
+    if (WIFSIGNALED(status)) raise(WTERMSIG(status));
+}
+
+static void copied_system(void) {
+    static struct sp_system joined, other;
+    must(sp_system_make(&joined, 1, 1, 1));
+    other = joined;
+    tell(&other.source);
+    sp_system_join(&other, &client);
+}
+
 static void ask_in_handler(int number) {
     (void)number;
     tell(&coordinator);
@@ -147,6 +171,8 @@ static const struct {
     {"copy", copy},
     {"copy_of_freed", copy_of_freed},
     {"forked_child", forked_child},
+    {"joined_in_child", joined_in_child},
+    {"copied_system", copied_system},
 };
 
 int main(int count, char **words) {

@@ -47,16 +47,6 @@ static int ask_all(System &system, const safepoint::Callback &callback) {
     return failed ? -1 : answered;
 }
 
-/* Starts the calling thread. While a census is open, it tries again. */
-static std::unique_ptr<Thread> started(safepoint::Party party, const safepoint::Callback &callback) {
-    for (;;) try {
-            return std::make_unique<Thread>(std::move(party), callback);
-        } catch (const Refused &refused) {
-            if (refused.answer() != SP_SAFEPOINT_OPEN) throw;
-            std::this_thread::yield();
-        }
-}
-
 /* Exceptions leave scopes while a coordinator works on handshakes and censuses. */
 static int exceptions_leave_scopes(int threads) {
     constexpr int turns = 300;
@@ -66,7 +56,7 @@ static int exceptions_leave_scopes(int threads) {
     std::vector<std::thread> all;
     for (int i = 0; i < threads; i++)
         all.emplace_back([&, party = system.fork()]() mutable {
-            auto thread = started(std::move(party), callback);
+            auto thread = std::make_unique<Thread>(std::move(party), callback);
             for (int turn = 0; turn < turns; turn++) try {
                     fail_inside(*thread, turn);
                 } catch (const Bug &) {
@@ -117,6 +107,33 @@ static int a_thread_asks() {
     Thread::Blocked blocked(thread);
     failed += system.drive([&](const sp_served &served) { place = served.place; }) != operation;
     return failed + (place != thread.place()) + (thread.party().reply(operation, thread.name()) != 1);
+}
+
+/* So many threads join at once, each by a copy of the system, while the coordinator works. */
+static int threads_join_at_once(int threads) {
+    constexpr int lives = 10;
+    System first(static_cast<std::size_t>(threads), 1, 1);
+    auto system = std::move(first);
+    std::atomic<int> waiting{0}, done{0}, ran{0}, failed{0};
+    auto callback = [&](const sp_served &) { ran++; };
+    std::vector<std::thread> all;
+    for (int i = 0; i < threads; i++)
+        all.emplace_back([&, shared = system.shared()] {
+            for (int life = 0; life < lives; life++) {
+                for (waiting++; waiting < (life + 1) * threads;) std::this_thread::yield();
+                Thread thread(shared.join(), callback);
+                failed += thread.party().pending() > 1000000;
+                thread.poll();
+            }
+            done++;
+        });
+    while (done < threads) {
+        system.at_safepoint(callback);
+        system.forget();
+    }
+    for (auto &thread : all) thread.join();
+    Thread last(system.shared().join());
+    return failed + (last.name() != static_cast<std::uint64_t>(threads * lives) + 1) + (ran == 0);
 }
 
 static int callbacks_run_once() {
@@ -189,6 +206,7 @@ int main() {
     int failed = callbacks_run_once() + a_thread_asks();
     for (int threads : {1, 4, 16})
         failed += exceptions_leave_scopes(threads) + refused_starts_keep_their_parties(threads);
+    for (int threads : {1, 4, 64}) failed += threads_join_at_once(threads);
     if (!failed) std::puts("ok");
     return failed != 0;
 }

@@ -137,11 +137,9 @@ static void step(struct one *me) {
     }
 }
 
-/* From a start to an exit. While a census is open no thread starts. */
-static bool live_once(struct one *me) {
-    int64_t name = sp_start_thread(&me->party, at_safe_point, me);
-    if (name == SP_SAFEPOINT_OPEN) return false;
-    me->name = must("sp_start", name);
+/* From a start to an exit. */
+static void live_once(struct one *me) {
+    me->name = must("sp_start", sp_start_thread(&me->party, at_safe_point, me));
     size_t place = (size_t)sp_place(&me->party);
     atomic_store(&at_place[place], me);
     atomic_fetch_add(&starts, 1);
@@ -149,14 +147,13 @@ static bool live_once(struct one *me) {
     while (me->depth) leave(me);
     atomic_store(&at_place[place], NULL);
     must("sp_exit", sp_exit_thread(&me->party, at_safe_point, me));
-    return true;
 }
 
 static void *run(void *with) {
     struct one *me = with;
     while (!atomic_load(&ends)) {
         must("sp_fork", sp_fork(&me->client, &me->party));
-        if (!live_once(me)) sched_yield();
+        live_once(me);
         sp_free(&me->party);
     }
     atomic_fetch_sub(&still, 1);

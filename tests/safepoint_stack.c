@@ -134,6 +134,9 @@ BODY(stop, sp_stop(at, callback, NULL))
 BODY(drive, sp_drive(at, callback, NULL))
 BODY(drive_four, sp_drive_four(at, callback, NULL))
 BODY(reclaim, sp_reclaim(at, n, callback, NULL))
+BODY(system_make, sp_system_make(&joined, PLACES, SLOTS, METHODS))
+BODY(system_join, sp_system_join(&joined, at))
+BODY(system_free, (sp_system_free(&joined), 0))
 
 /* All places taken, all codes but one installed, one stack full of frames, all threads in native code but the first. */
 static void begin(void) {
@@ -271,6 +274,10 @@ static void end(void) {
     ON(free, &spare, 0, 0);
     ON(free, &client, 0, 0);
     ON(free, &coordinator, 0, 0);
+    ON(system_make, NULL, 0, 0);
+    ON(system_join, &spare, 0, 0);
+    ON(free, &spare, 0, 0);
+    ON(system_free, NULL, 0, 0);
 }
 
 int main(int count, char **words) {

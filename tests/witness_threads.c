@@ -176,10 +176,10 @@ static void step(struct one *me) {
     }
 }
 
-/* From a start to an exit. While a census is open no thread starts. */
+/* From a start to an exit, if there is a place. */
 static bool live_once(struct one *me) {
     int64_t name = sp_start_thread(&me->party, at_safe_point, me);
-    if (name == SP_SAFEPOINT_OPEN || name == SP_PLACES_FULL) return false;
+    if (name == SP_PLACES_FULL) return false;
     me->name = must("sp_start", name);
     me->unwound = atomic_load(&unwound);
     atomic_store(&me->lives, true);

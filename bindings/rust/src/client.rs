@@ -34,11 +34,14 @@ impl Client {
     /// Starts the calling thread of the host as a thread of the system. It runs the callback for each operation that
     /// it serves itself. The start polls, so the callback may run in this call.
     ///
+    /// While a census is open, the call waits. So a thread that works on a census by
+    /// [`advance`](crate::Safepoints::advance) doesn't start before that is closed.
+    ///
     /// A callback makes no call that waits for another thread, and stops neither its own nor another party.
     ///
     /// # Errors
-    /// The refusal, with the client, which may start later: [`Refusal::SafepointOpen`] while a census is open,
-    /// [`Refusal::PlacesFull`], [`Refusal::Spent`], [`Refusal::HistoryFull`], [`Refusal::NoMemory`].
+    /// The refusal, with the client, which may start later: [`Refusal::PlacesFull`], [`Refusal::Spent`],
+    /// [`Refusal::HistoryFull`], [`Refusal::NoMemory`].
     ///
     /// # Panics
     /// Where the callback panics. The thread has exited then.
@@ -60,7 +63,7 @@ impl Deref for Client {
 
 /// Why a client isn't started, with the client.
 ///
-/// No thread starts while a census is open. So a host whose threads start at any time tries again:
+/// A host with more threads than its system has places tries again:
 ///
 /// ```
 /// use safepoint::{Refusal, Safepoints};
@@ -71,7 +74,7 @@ impl Deref for Client {
 /// let mut thread = loop {
 ///     match client.start(&mut callback) {
 ///         Ok(thread) => break thread,
-///         Err(refused) if refused.refusal() == Refusal::SafepointOpen => client = refused.into_inner(),
+///         Err(refused) if refused.refusal() == Refusal::PlacesFull => client = refused.into_inner(),
 ///         Err(refused) => return Err(refused.into()),
 ///     }
 ///     std::thread::yield_now();

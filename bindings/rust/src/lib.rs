@@ -1,8 +1,8 @@
 //! Stops the threads of a runtime at safe points, runs callbacks there, and says when machine code can be freed.
 //!
 //! [`Safepoints`] makes a system and is its coordinator: it works on what is asked. A [`Client`] asks, and becomes a
-//! running [`Thread`] by its start. All three are a [`Party`], which may ask and install codes. No call is made with a
-//! pointer, and none is unsafe.
+//! running [`Thread`] by its start. All three are a [`Party`], which may ask and install codes. Threads share a
+//! [`System`], and join it at any time. No call is made with a pointer, and none is unsafe.
 //!
 //! ```
 //! use safepoint::{Ask, Safepoints};
@@ -58,6 +58,7 @@ mod callback;
 mod client;
 mod party;
 mod refusal;
+mod shared;
 mod sys;
 mod system;
 mod thread;
@@ -67,5 +68,6 @@ pub use callback::Served;
 pub use client::{Client, StartError};
 pub use party::{Ask, Kind, Party};
 pub use refusal::Refusal;
+pub use shared::System;
 pub use system::{Next, Reclaimed, Safepoints};
 pub use thread::Thread;

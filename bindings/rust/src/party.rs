@@ -6,7 +6,6 @@ use crate::waiting::{answer, wait};
 use std::cell::{Cell, UnsafeCell};
 use std::fmt;
 use std::os::raw::c_int;
-use std::ptr;
 
 /// Of which kind a request is.
 #[derive(Clone, Copy, Debug, PartialEq, Eq, Hash)]
@@ -93,12 +92,9 @@ pub struct Party {
 unsafe impl Send for Party {}
 
 impl Party {
-    pub(crate) fn none() -> Party {
+    pub(crate) fn of(raw: sys::Party) -> Party {
         Party {
-            raw: UnsafeCell::new(sys::Party {
-                made: false,
-                at: ptr::null_mut(),
-            }),
+            raw: UnsafeCell::new(raw),
             has_old_targets: Cell::new(false),
         }
     }
@@ -119,7 +115,7 @@ impl Party {
     /// # Errors
     /// [`Refusal::NoMemory`].
     pub fn client(&self) -> Result<Client, Refusal> {
-        let other = Party::none();
+        let other = Party::of(sys::Party::default());
         // SAFETY: both are parties, and they aren't the same.
         answer(unsafe { sys::sp_fork(self.raw(), other.raw()) })?;
         Ok(Client::of(other))

@@ -1,12 +1,42 @@
 //! What libsafepoint.a and libsafepoint_wait.a export. `safepoint.h` and `safepoint_wait.h`, in
 //! `crates/safepoint/include`, say what each call does and answers.
 use std::os::raw::{c_int, c_uint, c_void};
+use std::ptr;
 
 #[repr(C)]
 #[derive(Debug)]
 pub struct Party {
     pub made: bool,
     pub at: *mut c_void,
+}
+
+impl Default for Party {
+    fn default() -> Party {
+        Party {
+            made: false,
+            at: ptr::null_mut(),
+        }
+    }
+}
+
+/// A system that threads share: all zeros at first.
+#[repr(C)]
+pub struct System {
+    coordinator: Party,
+    source: Party,
+    next: *mut System,
+    lock: c_uint,
+}
+
+impl Default for System {
+    fn default() -> System {
+        System {
+            coordinator: Party::default(),
+            source: Party::default(),
+            next: ptr::null_mut(),
+            lock: 0,
+        }
+    }
 }
 
 #[repr(C)]
@@ -40,7 +70,6 @@ pub type Act = unsafe extern "C" fn(*mut Party) -> i64;
 pub type Stopping = unsafe extern "C" fn(*mut Party, Callback, *mut c_void) -> i64;
 
 extern "C" {
-    pub fn sp_make(coordinator: *mut Party, places: usize, slots: usize, methods: usize) -> i64;
     pub fn sp_fork(party: *mut Party, other: *mut Party) -> i64;
     pub fn sp_free(party: *mut Party);
     pub fn sp_target_all(party: *mut Party) -> i64;
@@ -80,6 +109,10 @@ extern "C" {
 extern "C" {
     pub fn sp_again(answer: i64, pause: *mut Pause) -> bool;
     pub fn sp_ring();
+    pub fn sp_system_make(system: *mut System, places: usize, slots: usize, methods: usize) -> i64;
+    pub fn sp_system_coordinator(system: *mut System) -> *mut Party;
+    pub fn sp_system_join(system: *mut System, party: *mut Party) -> i64;
+    pub fn sp_system_free(system: *mut System);
     pub fn sp_stop(thread: *mut Party, call: Callback, with: *mut c_void) -> i64;
     pub fn sp_start_thread(thread: *mut Party, call: Callback, with: *mut c_void) -> i64;
     pub fn sp_exit_thread(thread: *mut Party, call: Callback, with: *mut c_void) -> i64;

@@ -2,6 +2,7 @@
 use crate::callback::{with_callback, Ran, Served};
 use crate::party::{Kind, Party};
 use crate::refusal::Refusal;
+use crate::shared::System;
 use crate::sys;
 use crate::waiting::{answer, wait};
 use std::ops::Deref;
@@ -76,6 +77,7 @@ pub enum Next {
 #[derive(Debug)]
 pub struct Safepoints {
     party: Party,
+    system: System,
     /// From the first [`advance`](Safepoints::advance) for a request to the last.
     hint: Option<Hint>,
 }
@@ -106,10 +108,13 @@ impl Safepoints {
     /// # Errors
     /// [`Refusal::BadSize`], [`Refusal::NoMemory`].
     pub fn new(places: usize, slots: usize, methods: usize) -> Result<Safepoints, Refusal> {
-        let party = Party::none();
-        // SAFETY: the pointer is that of a party, which isn't made yet.
-        answer(unsafe { sys::sp_make(party.raw(), places, slots, methods) })?;
-        Ok(Safepoints { party, hint: None })
+        let (system, party) = System::new(places, slots, methods)?;
+        Ok(Safepoints { party, system, hint: None })
+    }
+
+    /// The system, for threads that join it. They may outlive its coordinator.
+    pub fn system(&self) -> System {
+        self.system.clone()
     }
 
     /// Works the oldest request to its Close, and answers its number.
@@ -201,8 +206,8 @@ impl Safepoints {
     /// Reclaims a code that no thread enters any more, by a handshake with all live threads.
     ///
     /// # Errors
-    /// Those of [`begin_reclaim`](Party::begin_reclaim) and of [`drive`](Safepoints::drive).
-    /// [`Refusal::BadTargets`] where threads start and exit meanwhile: call again.
+    /// [`Refusal::Unknown`], [`Refusal::StillInUse`], [`Refusal::AlreadyOpen`] (something is open or waits),
+    /// [`Refusal::Spent`], [`Refusal::HistoryFull`], and those of [`drive`](Safepoints::drive).
     ///
     /// # Panics
     /// Where the callback panics. The handshake is closed then, and the code may be freed: where it is, a further call

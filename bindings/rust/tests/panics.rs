@@ -1,7 +1,7 @@
 //! Panics of bodies and of callbacks: each thread leaves what it was in and exits, and each request comes to its Close.
 mod common;
 
-use common::{clients, in_time, panic_of, panics_with, start, threads, with_each_count, Ends};
+use common::{clients, in_time, panic_of, panics_with, threads, with_each_count, Ends};
 use safepoint::{Ask, Client, Next, Reclaimed, Refusal, Safepoints, Served, Thread};
 use std::any::Any;
 use std::cell::Cell;
@@ -358,7 +358,7 @@ fn live_and_panic(clients: Vec<Client>, own: &AtomicU64) {
                 own.fetch_add(1, Ordering::SeqCst);
                 panics_with("in a callback")
             };
-            let mut thread = start(client, callback);
+            let mut thread = client.start(callback).unwrap();
             match has_run.get() {
                 true => panics_with("a start whose callback panicked goes on"),
                 false => fails_inside(&mut thread, turn),

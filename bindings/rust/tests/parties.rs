@@ -1,7 +1,7 @@
 //! What any party asks: the coordinator, a client and a running thread.
 mod common;
 
-use common::{clients, drive_all, in_time, nap, start, threads, with_each_count};
+use common::{clients, drive_all, in_time, nap, threads, with_each_count};
 use safepoint::{Ask, Client, Kind, Next, Party, Reclaimed, Refusal, Safepoints, Thread};
 use std::sync::atomic::{AtomicUsize, Ordering};
 use std::sync::mpsc;
@@ -134,7 +134,7 @@ fn running_threads_ask() {
             let done = &done;
             for client in clients(&system, count) {
                 scope.spawn(move || {
-                    let mut thread = start(client, |_| {});
+                    let mut thread = client.start(|_| {}).unwrap();
                     for _ in 0..ROUNDS {
                         thread.call(0, asks_in_a_method).unwrap();
                     }

@@ -1,38 +1,41 @@
-//! Starts that are refused: the client comes back, and starts later.
+//! Starts that wait for a census, and starts that are refused: the client comes back, and starts later.
 mod common;
 
-use common::{clients, in_time, start, threads, with_each_count};
-use safepoint::{Ask, Client, Kind, Next, Refusal, Safepoints, StartError};
+use common::{clients, in_time, threads, with_each_count};
+use safepoint::{Ask, Client, Next, Refusal, Safepoints, StartError};
 use std::error::Error;
 use std::sync::atomic::{AtomicUsize, Ordering};
 use std::thread;
+use std::time::Duration;
 
 fn refused(client: Client) -> StartError {
     client.start(|_| {}).unwrap_err()
 }
 
+/// All start while one census is open, and go on once it is closed.
 #[test]
-fn a_client_comes_back_where_a_census_is_open() {
+fn starts_wait_while_a_census_is_open() {
     with_each_count(|count| {
         let mut system = Safepoints::new(count + 1, 1, 1).unwrap();
         let mut late = threads(&system, 1).remove(0);
         let census = system.census().unwrap();
         assert_eq!(system.advance(), Ok(Next::Awaits(1)));
-        let refused: Vec<_> = clients(&system, count).into_iter().map(refused).collect();
-        let mut kept = Vec::new();
-        for it in refused {
-            let (refusal, client) = it.into_parts();
-            assert_eq!(refusal, Refusal::SafepointOpen);
-            assert_eq!(client.open_kind(), Ok(Some(Kind::Census)));
-            assert_eq!(client.live(), Ok(vec![late.name()]));
-            kept.push(client);
-        }
-        assert_eq!(late.in_native(|| system.drive(|_| {})), Ok(Ok(census)));
-        let started: Vec<_> = kept
-            .into_iter()
-            .map(|it| it.start(|_| {}).unwrap())
-            .collect();
-        assert_eq!(system.live().unwrap().len(), started.len() + 1);
+        let started = AtomicUsize::new(0);
+        thread::scope(|scope| {
+            for client in clients(&system, count) {
+                scope.spawn(|| {
+                    let mut thread = client.start(|_| {}).unwrap();
+                    started.fetch_add(1, Ordering::SeqCst);
+                    thread.exit().unwrap();
+                });
+            }
+            thread::sleep(Duration::from_millis(50));
+            assert_eq!(started.load(Ordering::SeqCst), 0);
+            assert_eq!(system.live(), Ok(vec![late.name()]));
+            assert_eq!(late.in_native(|| system.drive(|_| {})), Ok(Ok(census)));
+        });
+        assert_eq!(started.load(Ordering::SeqCst), count);
+        assert_eq!(system.live(), Ok(vec![late.name()]));
     });
 }
 
@@ -58,7 +61,7 @@ fn a_client_comes_back_where_each_place_has_a_thread() {
 
 /// Threads start all the time beside a coordinator that works on one census after the other.
 #[test]
-fn no_client_is_lost_beside_censuses() {
+fn each_client_starts_beside_censuses() {
     const LIVES: usize = 200;
     with_each_count(|count| {
         let mut system = Safepoints::new(64, 4, 4).unwrap();
@@ -68,7 +71,7 @@ fn no_client_is_lost_beside_censuses() {
                 let its = clients(&system, LIVES);
                 scope.spawn(|| {
                     for client in its {
-                        start(client, |_| {}).poll().unwrap();
+                        client.start(|_| {}).unwrap().poll().unwrap();
                         started.fetch_add(1, Ordering::SeqCst);
                     }
                     done.fetch_add(1, Ordering::SeqCst);

@@ -5,6 +5,7 @@
 
 #include <cstdint>
 #include <functional>
+#include <memory>
 #include <stdexcept>
 #include <string>
 #include <utility>
@@ -146,12 +147,43 @@ private:
     bool is_on_ = false;
 };
 
+/* A system as a value that threads share: each thread may copy it, and `join` at any time. */
+class SharedSystem {
+public:
+    /* A further party of the system, which starts as a Thread or stays a client. */
+    Party join() const {
+        Party other;
+        must(sp_system_join(system_.get(), other.get()));
+        return other;
+    }
+
+private:
+    friend class System;
+    struct Free {
+        void operator()(sp_system *system) const noexcept {
+            sp_system_free(system);
+            delete system;
+        }
+    };
+    SharedSystem(std::size_t places, std::size_t slots, std::size_t methods)
+        : system_(new sp_system{}, Free()) {
+        must(sp_system_make(system_.get(), places, slots, methods));
+    }
+
+    std::shared_ptr<sp_system> system_;
+};
+
 /* A system, as its coordinator. */
 class System : public Party {
 public:
-    System(std::size_t places, std::size_t slots, std::size_t methods) {
-        must(sp_make(&party_, places, slots, methods));
+    System(std::size_t places, std::size_t slots, std::size_t methods)
+        : shared_(places, slots, methods) {
+        party_ = std::exchange(*sp_system_coordinator(shared_.system_.get()), sp_party{});
+        moved(party_);
     }
+
+    /* The system, to pass to threads that join it. Their parties may outlive the coordinator. */
+    const SharedSystem &shared() const noexcept { return shared_; }
 
     /* Works the oldest request to its Close: its number. */
     std::uint64_t drive(Callback callback = {}) {
@@ -204,12 +236,13 @@ private:
         return must(answer);
     }
 
+    SharedSystem shared_;
     int kind_ = SP_HANDSHAKE; /* of what `called` tells */
     Hint hint_{false};        /* on from the first `advance` for a request to the last */
 };
 
-/* The thread that makes it, as long as it stands: it starts, serves what it is told with its
-   callback, and exits. It isn't passed on. Its scopes end also where an exception leaves them: the
+/* The thread that makes it, as long as it stands: it starts, once no census is open, serves what it is
+   told with its callback, and exits. It isn't passed on. Its scopes end also where an exception leaves them: the
    stop that this needs is served, and then the exception goes on. */
 class Thread {
 public:

@@ -89,6 +89,10 @@ int64_t sp_checked_unwind_to(struct sp_party *thread, size_t depth);
 int64_t sp_checked_unwind_thread(struct sp_party *thread, size_t depth, sp_callback call, void *with);
 int64_t sp_checked_switch(struct sp_party *from, struct sp_party *to, sp_callback call, void *with);
 
+int64_t sp_checked_system_make(struct sp_system *system, size_t places, size_t slots, size_t methods);
+int64_t sp_checked_system_join(struct sp_system *system, struct sp_party *party);
+void sp_checked_system_free(struct sp_system *system);
+
 /* A party that was made elsewhere stands here, and no longer there: safepoint.hpp moves parties. */
 void sp_checked_moved(struct sp_party *party);
 
@@ -161,6 +165,9 @@ void sp_checked_moved(struct sp_party *party);
 #define sp_unwind_to sp_checked_unwind_to
 #define sp_unwind_thread sp_checked_unwind_thread
 #define sp_switch sp_checked_switch
+#define sp_system_make sp_checked_system_make
+#define sp_system_join sp_checked_system_join
+#define sp_system_free sp_checked_system_free
 #endif
 
 #endif

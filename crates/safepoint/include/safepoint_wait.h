@@ -42,6 +42,27 @@ bool sp_again(int64_t answer, struct sp_pause *pause);
 /* After a call of safepoint.h that may let another thread continue: wakes all that sleep here. */
 void sp_ring(void);
 
+/* A SYSTEM as a value that threads share. The caller owns its memory, which is all zeros at first and
+   stays at its place until sp_system_free. Only these calls change it. */
+struct sp_system {
+    struct sp_party coordinator, source;
+    struct sp_system *next;
+    unsigned lock;
+};
+/* Makes a system with its coordinator, as sp_make, whose answers it has. */
+int64_t sp_system_make(struct sp_system *system, size_t places, size_t slots, size_t methods);
+/* The coordinator of the system. As with any party, one thread at a time calls with it. */
+struct sp_party *sp_system_coordinator(struct sp_system *system);
+/* Makes a further party of the system, which starts as a thread or stays a client. Any thread calls it
+   at any time, also while others do, and while the coordinator works. Returns what sp_fork returns;
+   SP_NOT_THIS if the system isn't made. */
+int64_t sp_system_join(struct sp_system *system, struct sp_party *party);
+/* Frees the coordinator, and all that the system has of its own; no call of the system may run. The
+   parties that joined stay, and are freed by sp_free. Nothing happens if the system isn't made.
+   In a forked child a system of its parent isn't made: it is all zeros, so that sp_system_join and
+   calls with its coordinator return SP_NOT_THIS, and sp_system_make may make it anew. */
+void sp_system_free(struct sp_system *system);
+
 /* Repeats the call until it returns something else than SP_AGAIN, and stores that in `answer`. The
    call may use `answer`, which keeps its value until then. */
 #define SP_WAIT(answer, call)                                                 \
@@ -56,9 +77,10 @@ void sp_ring(void);
 
 /* A thread. sp_stop follows a poll that returned a number. It serves the thread's operations until
    the thread continues, and returns 0. sp_start_thread returns the name, and sp_exit_thread 0; both
-   serve what stops the thread meanwhile. sp_enter_native and sp_enter_blocked give the stack away,
-   by sp_to_native and sp_block. The calls that leave take it back, serve what stops the thread, and
-   return 0. */
+   serve what stops the thread meanwhile. sp_start_thread waits while a census is open, so it never
+   returns SP_SAFEPOINT_OPEN, and whoever closes the census by single steps isn't the one who waits.
+   sp_enter_native and sp_enter_blocked give the stack away, by sp_to_native and sp_block. The calls
+   that leave take it back, serve what stops the thread, and return 0. */
 int64_t sp_stop(struct sp_party *thread, sp_callback call, void *with);
 int64_t sp_start_thread(struct sp_party *thread, sp_callback call, void *with);
 int64_t sp_exit_thread(struct sp_party *thread, sp_callback call, void *with);

@@ -345,3 +345,32 @@ int64_t sp_checked_enter_blocked(struct sp_party *thread) {
     leave(it);
     return answer;
 }
+
+/* --- systems that threads share --- */
+
+int64_t sp_checked_system_make(struct sp_system *system, size_t places, size_t slots, size_t methods) {
+    struct of_system own = {atomic_fetch_add(&systems, 1), getpid()};
+    int64_t answer = sp_system_make(system, places, slots, methods);
+    if (answer < 0) return answer;
+    note_made("sp_system_make", &system->coordinator, own);
+    note_made("sp_system_make", &system->source, own);
+    return answer;
+}
+
+/* Several threads may be in this call at a time. */
+int64_t sp_checked_system_join(struct sp_system *system, struct sp_party *party) {
+    struct note *it = system->source.made ? note_of("sp_system_join", &system->source) : NULL;
+    if (it) check_place("sp_system_join", &system->source, it);
+    int64_t answer = sp_system_join(system, party);
+    if (answer == 0) note_made("sp_system_join", party, it->system);
+    return answer;
+}
+
+/* The coordinator's party may have moved elsewhere (safepoint.hpp). */
+void sp_checked_system_free(struct sp_system *system) {
+    struct entered coordinator = enter("sp_system_free", &system->coordinator);
+    struct entered source = enter("sp_system_free", &system->source);
+    if (coordinator.note) atomic_store(&coordinator.note->at, NULL);
+    if (source.note) atomic_store(&source.note->at, NULL);
+    sp_system_free(system);
+}

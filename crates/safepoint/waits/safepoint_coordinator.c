@@ -55,10 +55,12 @@ int64_t sp_drive(struct sp_party *coordinator, sp_callback call, void *with) {
     struct late late = begin();
     struct sp_pause pause = {0, 0};
     int64_t answer;
+    bool is_census = false;
     for (bool lets_go = false;; lets_go |= runs(answer)) {
         answer = sp_advance(coordinator);
         if (lets_go && (answer == SP_AWAITS || atomic_load(&sp_waiting.gone.sleepers))) ring(&sp_waiting.gone);
         if (answer != SP_AGAIN) pause.turns = 0;
+        is_census |= answer == SP_AT_SAFEPOINT;
         if (runs(answer)) {
             if (call) run_called(coordinator, answer, call, with);
         } else if (answer == SP_AWAITS) {
@@ -71,6 +73,7 @@ int64_t sp_drive(struct sp_party *coordinator, sp_callback call, void *with) {
     sp_polls_end();
     ring(&sp_waiting.gone);
     atomic_fetch_add(&sp_waiting.ended, 1);
+    if (is_census) sp_waiting_let_start();
     PROBE(request__end, (int64_t)coordinator, answer);
     return answer;
 }

@@ -90,7 +90,7 @@ static inline int64_t taken(int64_t answer, crossing call, struct sp_party *thre
 
 int64_t sp_start_thread(struct sp_party *thread, sp_callback call, void *with) {
     int64_t name, stopped = 0;
-    SP_WAIT(name, sp_start(thread));
+    name = sp_waiting_start(thread);
     if (name > 0) sp_waiting_list((size_t)sp_place(thread), thread, name);
     if (name > 0 && sp_state(thread) == SP_AT_POLL) stopped = sp_stop(thread, call, with);
     return stopped < 0 ? stopped : name;

@@ -66,6 +66,11 @@ static inline unsigned driven(void) { return atomic_load(&sp_waiting.begun) - at
 
 static inline bool are_here(unsigned wanted) { return (int)(atomic_load(&sp_waiting.came) - wanted) >= 0; }
 
+/* Starts a thread, as sp_start does, which waits while a census is open. */
+int64_t sp_waiting_start(struct sp_party *thread);
+/* After a census is closed: wakes the threads that wait to start, and lets each of them try, for a millisecond or so. */
+void sp_waiting_let_start(void);
+
 /* Lists a party for a debugger: the row is the place of a thread, or PLACES for a coordinator, whose name is 0. */
 void sp_waiting_list(size_t row, struct sp_party *party, int64_t name);
 void sp_waiting_unlist(size_t row, struct sp_party *party);

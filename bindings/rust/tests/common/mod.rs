@@ -1,6 +1,6 @@
 //! What the tests share.
 #![allow(dead_code)]
-use safepoint::{Client, Refusal, Safepoints, Served, Thread};
+use safepoint::{Client, Refusal, Safepoints, Thread};
 use std::io::{self, Write};
 use std::panic::{catch_unwind, resume_unwind, AssertUnwindSafe};
 use std::sync::atomic::{AtomicBool, Ordering};
@@ -82,19 +82,6 @@ pub fn clients(system: &Safepoints, count: usize) -> Vec<Client> {
 pub fn threads(system: &Safepoints, count: usize) -> Vec<Thread<'static>> {
     let start = |client: Client| client.start(|_| {}).unwrap();
     clients(system, count).into_iter().map(start).collect()
-}
-
-/// Starts a client. While a census is open, it tries again.
-pub fn start<'a>(mut client: Client, callback: impl FnMut(Served) + Clone + 'a) -> Thread<'a> {
-    loop {
-        let refused = match client.start(callback.clone()) {
-            Ok(thread) => return thread,
-            Err(refused) => refused,
-        };
-        assert_eq!(refused.refusal(), Refusal::SafepointOpen);
-        client = refused.into_inner();
-        nap();
-    }
 }
 
 /// Runs the body while all these threads are in native code.

@@ -1,0 +1,94 @@
+//! A system as a value that threads share.
+use crate::client::Client;
+use crate::party::Party;
+use crate::refusal::Refusal;
+use crate::sys;
+use crate::waiting::answer;
+use std::cell::UnsafeCell;
+use std::fmt;
+use std::mem;
+use std::sync::Arc;
+
+/// A system that any thread of the host may join at any time, also while the coordinator works. Threads share it, or
+/// each has a clone.
+///
+/// It keeps the system, and no thread: [`Safepoints`](crate::Safepoints) works on what is asked, and after that is
+/// dropped nobody does.
+///
+/// ```
+/// use safepoint::{Refusal, Safepoints};
+/// use std::thread;
+///
+/// let mut safepoints = Safepoints::new(4, 4, 1)?;
+/// let running: Vec<_> = (0..4)
+///     .map(|_| safepoints.system())
+///     .map(|system| thread::spawn(move || {
+///         let mut thread = system.join()?.start(|_served| {})?;
+///         thread.poll()
+///     }))
+///     .collect();
+/// safepoints.census()?;
+/// safepoints.drive(|_served| {})?;
+/// for it in running {
+///     it.join().unwrap()?;
+/// }
+/// # Ok::<(), Refusal>(())
+/// ```
+///
+/// ```
+/// fn is_shared<T: Clone + Send + Sync>() {}
+/// is_shared::<safepoint::System>();
+/// ```
+#[derive(Clone)]
+pub struct System {
+    raw: Arc<Raw>,
+}
+
+/// It stays at its place.
+struct Raw(UnsafeCell<sys::System>);
+
+// SAFETY: after it is made, `sp_system_join` alone is called with it, which any thread may do at any time.
+unsafe impl Send for Raw {}
+// SAFETY: as above.
+unsafe impl Sync for Raw {}
+
+impl System {
+    /// Makes a system, and answers its coordinator's party too.
+    pub(crate) fn new(
+        places: usize,
+        slots: usize,
+        methods: usize,
+    ) -> Result<(System, Party), Refusal> {
+        let raw = Arc::new(Raw(UnsafeCell::new(sys::System::default())));
+        let at = raw.0.get();
+        // SAFETY: the pointer is that of a system, which isn't made yet.
+        answer(unsafe { sys::sp_system_make(at, places, slots, methods) })?;
+        // SAFETY: nobody else has the system, which is made. From here on the coordinator's party is here alone.
+        let coordinator = mem::take(unsafe { &mut *sys::sp_system_coordinator(at) });
+        Ok((System { raw }, Party::of(coordinator)))
+    }
+
+    /// Makes another party to the system, a client, which may become a thread.
+    ///
+    /// # Errors
+    /// [`Refusal::NoMemory`]. [`Refusal::NotThis`] in a forked child of the process that made the system.
+    pub fn join(&self) -> Result<Client, Refusal> {
+        let other = Party::of(sys::Party::default());
+        // SAFETY: the pointers are those of a system, with which any thread may make this call, and of a party.
+        answer(unsafe { sys::sp_system_join(self.raw.0.get(), other.raw()) })?;
+        Ok(Client::of(other))
+    }
+}
+
+impl fmt::Debug for System {
+    fn fmt(&self, out: &mut fmt::Formatter<'_>) -> fmt::Result {
+        out.debug_struct("System").finish_non_exhaustive()
+    }
+}
+
+impl Drop for Raw {
+    fn drop(&mut self) {
+        // SAFETY: the pointer is that of a system, and nobody calls with it any more.
+        unsafe { sys::sp_system_free(self.0.get()) }
+    }
+}
