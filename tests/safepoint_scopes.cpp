@@ -9,6 +9,7 @@
 #include "safepoint.hpp"
 
 using Kind = safepoint::Party::Kind;
+using safepoint::must;
 using safepoint::Refused;
 using safepoint::System;
 using safepoint::Thread;
@@ -109,6 +110,27 @@ static int a_thread_asks() {
     return failed + (place != thread.place()) + (thread.party().reply(operation, thread.name()) != 1);
 }
 
+/* One party is a thread again and again. It exits by hand or with its scope, and leaves its methods then. */
+static int a_party_starts_again() {
+    System system(1, 1, 1);
+    auto party = system.fork();
+    int failed = 0;
+    for (std::uint64_t life = 1; life < 20; life++) {
+        Thread thread(std::move(party));
+        failed += thread.name() != life;
+        must(sp_call(thread.party().get(), 0));
+        party = thread.exit();
+        failed += !party.live().empty();
+        try {
+            thread.poll();
+            failed++;
+        } catch (const Refused &refused) {
+            failed += refused.answer() != SP_NOT_THIS;
+        }
+    }
+    return failed;
+}
+
 /* So many threads join at once, each by a copy of the system, while the coordinator works. */
 static int threads_join_at_once(int threads) {
     constexpr int lives = 10;
@@ -203,7 +225,7 @@ static int callbacks_run_once() {
 
 int main() {
     alarm(300);
-    int failed = callbacks_run_once() + a_thread_asks();
+    int failed = callbacks_run_once() + a_thread_asks() + a_party_starts_again();
     for (int threads : {1, 4, 16})
         failed += exceptions_leave_scopes(threads) + refused_starts_keep_their_parties(threads);
     for (int threads : {1, 4, 64}) failed += threads_join_at_once(threads);

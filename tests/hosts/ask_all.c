@@ -24,11 +24,12 @@ static void *live(void *with) {
             if (must("sp_back_edge", sp_back_edge(&thread))) IS(sp_stop(&thread, at_safe_point, NULL), 0);
         IS(sp_exit_thread(&thread, at_safe_point, NULL), 0);
         sp_free(&thread);
+        nap(100);
     }
     return with;
 }
 
-/* One handshake with all that live, by any party's client; whether some thread lived. */
+/* One handshake with all that live: whether some thread lived. */
 static bool ask(struct sp_party *coordinator) {
     int64_t number, forgotten;
     must("sp_target_all", sp_target_all(coordinator));
@@ -49,15 +50,17 @@ int main(int count, char **words) {
         if (pthread_create(&ids[i], NULL, live, NULL)) return 2;
     struct sp_party *coordinator = sp_system_coordinator(&joined);
     while (!atomic_load(&starts)) nap(100);
-    long asked = 0;
-    for (int i = 0; i < requests; i++) {
-        asked += ask(coordinator);
+    long operations = 0;
+    for (int asked = 0; asked < requests; asked++) {
+        while (!ask(coordinator)) nap(50);
+        if (asked % 4) continue;
         must("sp_at_safepoint", sp_at_safepoint(coordinator, at_safe_point, NULL));
+        operations++;
     }
     atomic_store(&ends, true);
     for (int i = 0; i < threads; i++) pthread_join(ids[i], NULL);
     sp_system_free(&joined);
-    printf("%d threads, %ld starts beside %ld handshakes and %d VM operations of all\n", threads, atomic_load(&starts), asked,
-           requests);
+    printf("%d threads, %ld starts beside %d handshakes and %ld VM operations of all\n", threads, atomic_load(&starts),
+           requests, operations);
     return 0;
 }

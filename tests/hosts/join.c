@@ -21,16 +21,18 @@ static void heed(struct sp_party *thread, int64_t polled) {
 static void ask_itself(struct sp_party *thread, int64_t name) {
     int64_t number, reply;
     must("sp_call", sp_call(thread, 0));
-    do {
+    for (;; nap(50)) {
         heed(thread, sp_back_edge(thread));
         must("sp_target", sp_target(thread, (uint64_t)name));
         SP_WAIT(number, sp_submit(thread, SP_DEPTH, 0));
-    } while (number == SP_QUEUE_FULL);
+        if (number != SP_QUEUE_FULL) break;
+    }
     must("sp_submit", number);
-    do {
+    for (;; nap(50)) {
         heed(thread, sp_back_edge(thread));
         SP_WAIT(reply, sp_reply(thread, (uint64_t)number, (uint64_t)name));
-    } while (reply == SP_PENDING);
+        if (reply != SP_PENDING) break;
+    }
     if (reply != 1) fail("sp_reply", reply);
     heed(thread, sp_ret(thread));
 }
@@ -62,13 +64,13 @@ int main(int count, char **words) {
     for (int i = 0; i < threads; i++)
         if (pthread_create(&ids[i], NULL, live, NULL)) return 2;
     for (long turn = 0; atomic_load(&done) < threads; turn++) {
-        int64_t closed = turn % 8 ? sp_drive(coordinator, at_safe_point, NULL) : sp_at_safepoint(coordinator, NULL, NULL);
-        if (closed == SP_QUEUE_EMPTY) sched_yield();
+        int64_t closed = turn % 8 ? sp_drive(coordinator, at_safe_point, NULL) : sp_at_safepoint(coordinator, at_safe_point, NULL);
+        if (closed == SP_QUEUE_EMPTY) nap(50);
         else if (closed != SP_QUEUE_FULL) must("the coordinator", closed);
-        DONE(closed, sp_forget(coordinator));
     }
     for (int i = 0; i < threads; i++) pthread_join(ids[i], NULL);
     IS(sp_live_after(coordinator, 0), 0);
+    if (atomic_load(&ran) != (long)threads * lives) fail("so many callbacks", atomic_load(&ran));
     /* the names are those from 1 on, each once */
     IS(sp_system_join(&joined, &client), 0);
     IS(sp_start_thread(&client, NULL, NULL), (int64_t)threads * lives + 1);
@@ -77,6 +79,6 @@ int main(int count, char **words) {
     IS(sp_exit_thread(&client, NULL, NULL), 0);
     sp_free(&client);
     IS(sp_system_join(&joined, &client), SP_NOT_THIS);
-    printf("%d threads joined %d times each, and %ld callbacks ran\n", threads, lives, atomic_load(&ran));
+    printf("%d threads joined %d times each\n", threads, lives);
     return 0;
 }

@@ -90,6 +90,7 @@ static void *live(void *with) {
             if (must("sp_back_edge", sp_back_edge(&thread))) IS(sp_stop(&thread, NULL, NULL), 0);
         IS(sp_exit_thread(&thread, NULL, NULL), 0);
         sp_free(&thread);
+        nap(100);
     }
     return with;
 }

@@ -19,7 +19,7 @@ static void *run(void *with) {
 static void *drive(void *with) {
     while (!atomic_load(&ends)) {
         int64_t closed = sp_drive(&coordinator, NULL, NULL);
-        if (closed == SP_QUEUE_EMPTY) sched_yield();
+        if (closed == SP_QUEUE_EMPTY) nap(50);
         else must("sp_drive", closed);
     }
     return with;
@@ -52,7 +52,7 @@ static long beside(int requests) {
     long pending = 0;
     for (int i = 0; i < requests; i++) {
         int64_t target = i % 2 ? GONE : atomic_load(&name), number = asked(target), reply;
-        for (;; pending++) {
+        for (;; pending++, nap(20)) {
             SP_WAIT(reply, sp_reply(&client, (uint64_t)number, (uint64_t)target));
             if (reply != SP_PENDING) break;
             if (i % 4 > 1) IS(sp_wait_closed(&client, (uint64_t)number), 0);

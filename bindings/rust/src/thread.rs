@@ -2,12 +2,14 @@
 mod inline;
 
 use crate::callback::{with_callback, Ran, Served};
+use crate::client::Client;
 use crate::party::Party;
 use crate::refusal::Refusal;
 use crate::sys;
 use crate::waiting::answer;
 use std::fmt;
 use std::marker::PhantomData;
+use std::mem;
 use std::ops::Deref;
 use std::ptr::NonNull;
 use std::sync::atomic::AtomicU32;
@@ -238,6 +240,31 @@ impl<'a> Thread<'a> {
                 |_| Ok(body()),
             )
         })
+    }
+
+    /// Leaves all methods, exits, and answers the client again, which may start as another thread.
+    ///
+    /// ```
+    /// # use safepoint::Safepoints;
+    /// # let system = Safepoints::new(1, 1, 1)?;
+    /// let first = system.client()?.start(|_served| {})?;
+    /// let client = first.into_client()?;
+    /// assert_eq!(client.start(|_served| {})?.name(), 2);
+    /// # Ok::<(), safepoint::Refusal>(())
+    /// ```
+    ///
+    /// # Errors
+    /// `safepoint.h` lists none.
+    ///
+    /// # Panics
+    /// Where a callback panics. The thread has exited then, and the client is gone.
+    pub fn into_client(mut self) -> Result<Client, Refusal> {
+        if self.party.once(sys::sp_name) > 0 {
+            let left = self.leave_down_to(0);
+            left.then(self.serving(sys::sp_exit_thread)).resume()?;
+        }
+        let none = Party::of(sys::Party::default());
+        Ok(Client::of(mem::replace(&mut self.party, none)))
     }
 
     /// Exits at once. Each later call of a thread answers [`Refusal::NotThis`], and the value still asks what any

@@ -1,7 +1,7 @@
 //! A system that threads share.
 mod common;
 
-use common::{in_time, with_each_count};
+use common::{in_time, nap, with_each_count};
 use safepoint::{Ask, Refusal, Safepoints, System};
 use std::sync::atomic::{AtomicUsize, Ordering};
 use std::sync::Barrier;
@@ -12,13 +12,13 @@ fn asks_itself(system: &System) -> Result<u64, Refusal> {
     thread.call(0, |thread| {
         let operation = loop {
             match thread.submit(&[thread.name()], Ask::Depth) {
-                Err(Refusal::QueueFull) => thread.poll()?,
+                Err(Refusal::QueueFull) => thread.poll().map(|()| nap())?,
                 submitted => break submitted?,
             }
         };
         loop {
             match thread.reply(operation, thread.name()) {
-                Err(Refusal::Pending) => thread.poll()?,
+                Err(Refusal::Pending) => thread.poll().map(|()| nap())?,
                 replied => break replied,
             }
         }
@@ -43,7 +43,7 @@ fn threads_join(count: usize, lives: usize) {
         while done.load(Ordering::SeqCst) < count {
             for _ in 0..8 {
                 match safepoints.drive(|_| {}) {
-                    Err(Refusal::QueueEmpty) => thread::yield_now(),
+                    Err(Refusal::QueueEmpty) => nap(),
                     driven => drop(driven.unwrap()),
                 }
             }
@@ -51,7 +51,6 @@ fn threads_join(count: usize, lives: usize) {
                 Err(Refusal::QueueFull) => {}
                 operated => drop(operated.unwrap()),
             }
-            safepoints.forget().unwrap();
         }
     });
     assert_eq!(safepoints.live(), Ok(vec![]));
@@ -89,6 +88,45 @@ fn a_system_outlives_its_coordinator() {
         assert_eq!(client.live().unwrap().len(), started.len());
         drop(started);
         assert_eq!(client.live(), Ok(vec![]));
+    });
+}
+
+/// So many parties are threads again and again, beside requests of all.
+#[test]
+fn a_client_starts_again() {
+    const LIVES: usize = 50;
+    with_each_count(|count| {
+        let mut safepoints = Safepoints::new(count, 1, 1).unwrap();
+        let (system, done) = (safepoints.system(), AtomicUsize::new(0));
+        thread::scope(|scope| {
+            for _ in 0..count {
+                scope.spawn(|| {
+                    let (mut client, mut last) = (system.join().unwrap(), 0);
+                    for life in 0..LIVES {
+                        let mut thread = client.start(|_| {}).unwrap();
+                        assert!(thread.name() > last);
+                        last = thread.name();
+                        thread.enter(0).unwrap();
+                        thread.poll().unwrap();
+                        if life % 2 == 0 {
+                            thread.leave().unwrap();
+                            thread.exit().unwrap();
+                        }
+                        client = thread.into_client().unwrap();
+                    }
+                    done.fetch_add(1, Ordering::SeqCst);
+                });
+            }
+            while done.load(Ordering::SeqCst) < count {
+                match safepoints.submit_to_all(Ask::Depth) {
+                    Err(Refusal::NoTargets) => {}
+                    asked => assert_eq!(safepoints.drive(|_| {}), asked),
+                }
+                safepoints.at_safepoint(|_| {}).unwrap();
+                safepoints.forget().unwrap();
+            }
+        });
+        assert_eq!(safepoints.live(), Ok(vec![]));
     });
 }
 

@@ -181,8 +181,9 @@ void sp_free(struct sp_party *party);
    open. It polls: if sp_state says that the thread is at a poll, it stops as after any poll. */
 int64_t sp_start(struct sp_party *thread);
 /* Returns 0, and the party is a client, which may start again as another thread; or the number of an
-   operation, if a poll stopped the thread, which stays one, and goes on in Java. After SP_AGAIN the thread may have left already,
-   or may have published its stack, polled and gone into Java, so repeat the call. */
+   operation, if a poll stopped the thread, which stays one, and goes on in Java. After SP_AGAIN the
+   thread may have left already, or may have published its stack, polled and gone into Java, so repeat
+   the call. */
 int64_t sp_exit(struct sp_party *thread);
 /* The thread's name, its place (from 0 on), its state, and how many frames its stack has. */
 int64_t sp_name(struct sp_party *thread);
@@ -221,7 +222,8 @@ int64_t sp_stop_serve(struct sp_party *thread);
    call sp_reclaim_begin with serial 0, which no code has, until it returns SP_UNKNOWN.
    sp_submit queues a handshake of the targets, and returns its number. SP_QUEUE_FULL: 64 wait.
    SP_BAD_TARGETS: a name twice, or more than 64. SP_BAD_ASK: `asks` isn't SP_DEPTH, SP_COUNT_OF or
-   SP_TOP. sp_census queues a census of all threads, and returns its number. */
+   SP_TOP. sp_census queues a census of all threads, and returns its number. If the coordinator works
+   on another thread, callbacks of an operation may run before its number is returned here. */
 int64_t sp_target(struct sp_party *party, uint64_t name);
 /* The targets of the party's next request are all threads that live when it is submitted, in place of
    names. */
@@ -229,14 +231,16 @@ int64_t sp_target_all(struct sp_party *party);
 int64_t sp_submit(struct sp_party *party, uint32_t asks, uint64_t serial);
 int64_t sp_census(struct sp_party *party);
 /* sp_install installs a new code for the method, and returns its serial. From then on no thread
-   enters the method's code before it. SP_TABLE_FULL: each slot has a code that isn't freed.
+   enters the method's code before it. A thread may enter the new one before the serial is returned. SP_TABLE_FULL: each slot has a code that isn't freed.
    sp_invalidate takes a code out of use, so that no thread enters it. SP_UNKNOWN: no code has the
    serial, or it is freed. SP_NOT_IN_USE: it is out of use already. */
 int64_t sp_install(struct sp_party *party, uint32_t method);
 int64_t sp_invalidate(struct sp_party *party, uint64_t serial);
 /* sp_reply returns what the name answered in an operation. SP_PENDING: it hasn't yet, and the
    operation, or one before it, isn't closed. SP_NOT_ANSWERED: it exited before, it was no target, or
-   the reply is forgotten. sp_live_after returns the least live name above this one, or 0 for none.
+   the reply is forgotten. sp_live_after returns the least live name above this one, or 0 for none. A
+   walk from name to name also finds threads that started after it began, so it ends only once no more
+   of them start. For a request of all that live, call sp_target_all.
    sp_open_kind returns of which kind the open requests are: SP_HANDSHAKE or SP_CENSUS, or SP_NONE if
    nothing is open. sp_pending returns the least number of a request that is open or waits, or 0 for
    none: all requests below it are closed. */
@@ -245,7 +249,17 @@ int64_t sp_live_after(struct sp_party *party, uint64_t name);
 int64_t sp_open_kind(struct sp_party *party);
 int64_t sp_pending(struct sp_party *party);
 /* Forgets all entries so far, and the replies of all operations before the first one that is open or
-   waits. A history of a million entries is full: SP_HISTORY_FULL. */
+   waits. A history of 1,000,000 entries is full: SP_HISTORY_FULL. The ENTRIES that a call takes, or
+   keeps room for:
+
+   sp_start, with the thread's exit                              2
+   sp_submit of N targets, with all that is done for it          N + 3
+   sp_census, with all that is done for it                       4
+   sp_install, with all that becomes of the code                 4
+   sp_reclaim_begin of N targets, with all that is done for it   N + 3
+
+   sp_reclaim_begin without targets takes none, nor does any other call. The room for a target that
+   exits before it is served is free again once the request is closed. */
 int64_t sp_forget(struct sp_party *party);
 
 /* THE COORDINATOR. sp_advance works on the oldest open request as far as it can without waiting, and

@@ -253,10 +253,12 @@ public:
           party_(std::move(party)) {}
     Thread(const Thread &) = delete;
     Thread &operator=(const Thread &) = delete;
-    ~Thread() {
-        bring_back();
-        sp_unwind_thread(get(), 0, at_safe_point, &callback_);
-        sp_exit_thread(get(), at_safe_point, &callback_);
+    ~Thread() { end(); }
+
+    /* Exits before its end, and gives its party back, which may start again as another Thread. */
+    Party exit() {
+        must(end());
+        return std::move(party_);
     }
 
     std::uint64_t name() const noexcept { return name_; }
@@ -365,6 +367,11 @@ public:
 
 private:
     sp_party *get() noexcept { return party_.get(); }
+    std::int64_t end() noexcept {
+        bring_back();
+        sp_unwind_thread(get(), 0, at_safe_point, &callback_);
+        return sp_exit_thread(get(), at_safe_point, &callback_);
+    }
     void polled(std::int64_t answer) {
         if (must(answer)) must(sp_stop(get(), at_safe_point, &callback_));
     }

@@ -101,12 +101,11 @@ int64_t sp_drive_four(struct sp_party *coordinator, sp_callback call, void *with
 int64_t sp_at_safepoint(struct sp_party *coordinator, sp_callback call, void *with);
 /* Any party: waits until the request of the number, and each before it, is closed. Returns 0. */
 int64_t sp_wait_closed(struct sp_party *party, uint64_t number);
-/* Reclaims a code that no thread enters any more, by a handshake of all live threads. Returns 0 if
-   the code is freed, else how many frames of it are on stacks; SP_LATE; and what sp_reclaim_begin
-   and sp_drive return. SP_BAD_TARGETS: threads started and exited while it listed the live names, so
-   that it has more than 64, or the coordinator had targets of its own. Call again. After
-   SP_NO_MEMORY names may be left among the coordinator's targets: sp_reclaim_begin with serial 0
-   takes them back. */
+/* Reclaims a code that no thread enters any more, by a handshake of all threads that live then, in
+   place of the coordinator's own targets. Returns 0 if the code is freed, else how many frames of it
+   are on stacks; SP_LATE; and what sp_reclaim_begin and sp_drive return, but never SP_BAD_TARGETS.
+   After SP_NO_MEMORY the targets of the coordinator's next request may be all threads:
+   sp_reclaim_begin with serial 0 takes them back. */
 int64_t sp_reclaim(struct sp_party *coordinator, uint64_t serial, sp_callback call, void *with);
 
 /* POLLS IN LINE. Compiled code tests a word: 0, it goes on; else it calls sp_back_edge. The word
