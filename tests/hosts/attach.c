@@ -46,7 +46,8 @@ static void end(pthread_t *ids, int threads) {
     for (int i = 0; i < threads; i++) pthread_join(ids[i], NULL);
 }
 
-/* All start while one census is open: how many tries it refused. Its end wakes them, or, where nobody rings, a nap ends. */
+/* All start while one census is open: how many tries it refused. Its end wakes them, or, where nobody rings, a nap
+   ends. */
 static long during_one(int threads, bool rings) {
     pthread_t ids[MOST];
     int64_t number;
@@ -97,7 +98,7 @@ int main(int count, char **words) {
     coordinator = sp_system_coordinator(&joined);
     long with_ring = during_one(threads, true), without = during_one(threads, false);
     long operations = during_many(threads, (long)threads * each);
-    printf("%d threads, %ld starts beside %ld VM operations, which refused %ld tries; one census refused %ld, and %ld\n",
+    printf("%d threads, %ld starts beside %ld VM operations, which refused %ld tries; a census refused %ld and %ld\n",
            threads, atomic_load(&starts), operations, atomic_load(&refused), with_ring, without);
     sp_system_free(&joined);
     return 0;

@@ -1,5 +1,5 @@
-/* How many entries of the history each kind of call takes: entries. Each line has a kind, how many entries of it the page
-   of sp_forget counts, and how often it came until the history was full; tests/hosts.py knows how often it must. */
+/* How many entries of the history each kind of call takes. Each line has a kind, how many threads live beside it, and how
+   often it came until the history was full; tests/hosts.py knows how often it must. */
 #include "host.h"
 
 static struct sp_party coordinator, threads[MOST];

@@ -1,5 +1,5 @@
 /* A process with a system forks while other threads join it, run in it, and make and free systems of their own:
-   fork_child FORKS. In the child a system of the parent isn't made, nothing waits, and the child makes one of its own. */
+   fork_child FORKS. In the child a system of the parent isn't made, nothing waits, and the child makes its own. */
 #include "host.h"
 
 #include <sys/wait.h>
@@ -119,7 +119,7 @@ int main(int count, char **words) {
     atomic_store(&ends, true);
     for (int i = 0; i < 4; i++) pthread_join(ids[i], NULL);
     sp_system_free(&joined);
-    printf("%d children, beside %ld joins and %ld systems of others, and %d callbacks\n", 2 * forks, atomic_load(&joins),
-           atomic_load(&made), atomic_load(&ran));
+    printf("%d children, beside %ld joins and %ld systems of others, and %d callbacks\n", 2 * forks,
+           atomic_load(&joins), atomic_load(&made), atomic_load(&ran));
     return 0;
 }

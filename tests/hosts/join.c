@@ -64,7 +64,8 @@ int main(int count, char **words) {
     for (int i = 0; i < threads; i++)
         if (pthread_create(&ids[i], NULL, live, NULL)) return 2;
     for (long turn = 0; atomic_load(&done) < threads; turn++) {
-        int64_t closed = turn % 8 ? sp_drive(coordinator, at_safe_point, NULL) : sp_at_safepoint(coordinator, at_safe_point, NULL);
+        int64_t closed = turn % 8 ? sp_drive(coordinator, at_safe_point, NULL)
+                                  : sp_at_safepoint(coordinator, at_safe_point, NULL);
         if (closed == SP_QUEUE_EMPTY) nap(50);
         else if (closed != SP_QUEUE_FULL) must("the coordinator", closed);
     }

@@ -125,8 +125,8 @@ int main(int count, char **words) {
     long late = beside_threads(codes);
     atomic_store(&ends, true);
     for (int i = 0; i < threads; i++) pthread_join(ids[i], NULL);
-    printf("%d threads, %ld starts beside %d codes that were freed, %ld times late\n", threads, atomic_load(&starts), codes,
-           late);
+    printf("%d threads, %ld starts beside %d codes that were freed, %ld times late\n", threads, atomic_load(&starts),
+           codes, late);
     sp_system_free(&joined);
     return 0;
 }

@@ -1,5 +1,5 @@
-/* Parties that are threads again and again: restart THREADS LIVES. Between two lives each is a client, which asks, and whose
-   next life has another name. */
+/* Parties that are threads again and again: restart THREADS LIVES. Between two lives each is a client, which asks, and
+   each life has a name of its own. */
 #include "host.h"
 
 static struct sp_system joined;

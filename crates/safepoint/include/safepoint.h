@@ -231,9 +231,10 @@ int64_t sp_target_all(struct sp_party *party);
 int64_t sp_submit(struct sp_party *party, uint32_t asks, uint64_t serial);
 int64_t sp_census(struct sp_party *party);
 /* sp_install installs a new code for the method, and returns its serial. From then on no thread
-   enters the method's code before it. A thread may enter the new one before the serial is returned. SP_TABLE_FULL: each slot has a code that isn't freed.
-   sp_invalidate takes a code out of use, so that no thread enters it. SP_UNKNOWN: no code has the
-   serial, or it is freed. SP_NOT_IN_USE: it is out of use already. */
+   enters the method's code before it. A thread may enter the new one before the serial is returned
+   here. SP_TABLE_FULL: each slot has a code that isn't freed. sp_invalidate takes a code out of use,
+   so that no thread enters it. SP_UNKNOWN: no code has the serial, or it is freed. SP_NOT_IN_USE: it
+   is out of use already. */
 int64_t sp_install(struct sp_party *party, uint32_t method);
 int64_t sp_invalidate(struct sp_party *party, uint64_t serial);
 /* sp_reply returns what the name answered in an operation. SP_PENDING: it hasn't yet, and the

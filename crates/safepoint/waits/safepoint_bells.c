@@ -45,6 +45,16 @@ void sp_waiting_wake(struct bell *bell) {
 }
 #endif
 
+void sp_waiting_forked(void) {
+    atomic_store(&sp_waiting.come.sleepers, 0);
+    atomic_store(&sp_waiting.gone.sleepers, 0);
+    atomic_store(&sp_waiting.starting, 0);
+#ifdef SP_PTHREAD
+    pthread_mutex_init(&mutex, NULL);
+    pthread_cond_init(&changed, NULL);
+#endif
+}
+
 void sp_ring(void) {
     ring(&sp_waiting.come);
     ring(&sp_waiting.gone);

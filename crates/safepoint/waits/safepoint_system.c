@@ -17,6 +17,7 @@ static void in_child(void) {
         systems = it->next;
         *it = (struct sp_system){.lock = 0};
     }
+    sp_waiting_forked();
     pthread_mutex_unlock(&mutex);
 }
 

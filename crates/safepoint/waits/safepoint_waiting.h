@@ -47,6 +47,8 @@ struct waiting {
     _Alignas(64) atomic_uint came;   /* threads that served what they were told, or gave their stack away */
     _Alignas(64) atomic_uint wanted; /* the value of `came` for which a coordinator waits */
     atomic_uint begun, ended;        /* drives that began, and that ended */
+    atomic_uint starting;            /* threads that wait to start until a census is over */
+    atomic_uint tried;               /* how often one of them tried again */
 };
 extern struct waiting sp_waiting;
 
@@ -66,9 +68,13 @@ static inline unsigned driven(void) { return atomic_load(&sp_waiting.begun) - at
 
 static inline bool are_here(unsigned wanted) { return (int)(atomic_load(&sp_waiting.came) - wanted) >= 0; }
 
+/* In a forked child: no other thread sleeps there, waits to start, or has a lock of the bells. */
+void sp_waiting_forked(void);
+
 /* Starts a thread, as sp_start does, which waits while a census is open. */
 int64_t sp_waiting_start(struct sp_party *thread);
-/* After a census is closed: wakes the threads that wait to start, and lets each of them try, for a millisecond or so. */
+/* After a census is closed: wakes the threads that wait to start, and lets each of them try. It naps 16 times for that at
+   most. */
 void sp_waiting_let_start(void);
 
 /* Lists a party for a debugger: the row is the place of a thread, or PLACES for a coordinator, whose name is 0. */
