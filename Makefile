@@ -63,6 +63,7 @@ safepoint:
 	@tests/safepoint.py crates/safepoint/out/libsafepoint.a
 	@tests/collector.py crates/safepoint/out/libsafepoint.a
 	@tests/inline.py crates/safepoint/out/libsafepoint.a
+	@tests/hosts.py crates/safepoint/out/libsafepoint.a
 
 embed:
 	@tests/build.py model

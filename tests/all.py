@@ -54,6 +54,7 @@ ALONE = (
     (("safepoint.py", SAFEPOINT, MODEL), ("safepoint", "model")),
     (("collector.py", SAFEPOINT), ("safepoint",)),
     (("inline.py", SAFEPOINT), ("safepoint",)),
+    (("hosts.py", SAFEPOINT), ("safepoint",)),
     (("stacks.py", SAFEPOINT), ("safepoint",)),
     (("header.py", SAFEPOINT), ("safepoint",)),
     (("watching.py", SAFEPOINT), ("safepoint",)),

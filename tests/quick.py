@@ -46,7 +46,7 @@ COLUMNS = 120
 OF_A_CRATE = re.compile(r"crates/(\w+)/(?:src|specs|proofs)/")
 OF_C = re.compile(
     r"crates/\w+/(?:include|waits)/|bindings/|examples/(?:embed|gc|jit)/"
-    r"|tests/(?:\w+\.(?:c|cpp|h)|(?:safepoint|collector|inline|installed|embed|refusing|unproved)\.py)$"
+    r"|tests/(?:(?:hosts/)?\w+\.(?:c|cpp|h)|(?:safepoint|collector|inline|hosts|installed|embed|refusing|unproved)\.py)$"
 )
 ENDED = re.compile(r"^run=ended status=0 .*proved=no$", re.MULTILINE)
 TESTS = re.compile(r"^test result: ok\. (\d+) passed; 0 failed", re.MULTILINE)
@@ -282,6 +282,7 @@ class Quick:
             self.script("tests/safepoint.py", libraries["safepoint"], libraries["model"])
             self.script("tests/collector.py", libraries["safepoint"])
             self.script("tests/inline.py", libraries["safepoint"])
+            self.script("tests/hosts.py", libraries["safepoint"])
             self.script("tests/embed.py", libraries["model"])
         return self.tally.end()
 
