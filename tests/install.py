@@ -62,6 +62,7 @@ class Uses:
         first_stop, waits = block("c first_stop.c"), sorted((self.installed.top / "share" / "safepoint").glob("*.c"))
         notes = ("-std=gnu11", "-DSP_RECORD", *waits)
         self.build("first_stop.c", first_stop, "safepoint", FIRST_STOP, c_compiler(), "-std=c11")
+        self.build("attach.c", block("c attach.c"), "safepoint", b"census 1\n", c_compiler(), "-std=c11")
         self.build("noted.c", first_stop, "safepoint", FIRST_STOP, c_compiler(), *notes)
         self.build("model.c", MODEL, "model", MODEL_SAYS, c_compiler(), "-std=c11")
         readme = block("c", ROOT / "README.md")

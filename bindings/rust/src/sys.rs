@@ -24,6 +24,7 @@ impl Default for Party {
 pub struct System {
     coordinator: Party,
     source: Party,
+    at: *mut c_void,
     next: *mut System,
     lock: c_uint,
 }
@@ -33,6 +34,7 @@ impl Default for System {
         System {
             coordinator: Party::default(),
             source: Party::default(),
+            at: ptr::null_mut(),
             next: ptr::null_mut(),
             lock: 0,
         }

@@ -46,6 +46,7 @@ void sp_ring(void);
    stays at its place until sp_system_free. Only these calls change it. */
 struct sp_system {
     struct sp_party coordinator, source;
+    void *at;
     struct sp_system *next;
     unsigned lock;
 };

@@ -357,9 +357,10 @@ int64_t sp_checked_system_make(struct sp_system *system, size_t places, size_t s
     return answer;
 }
 
-/* Several threads may be in this call at a time. */
+/* Several threads may be in this call at a time, so that it doesn't look into the party that they share. */
 int64_t sp_checked_system_join(struct sp_system *system, struct sp_party *party) {
-    struct note *it = system->source.made ? note_of("sp_system_join", &system->source) : NULL;
+    struct sp_party source = {true, system->at};
+    struct note *it = source.at ? note_of("sp_system_join", &source) : NULL;
     if (it) check_place("sp_system_join", &system->source, it);
     int64_t answer = sp_system_join(system, party);
     if (answer == 0) note_made("sp_system_join", party, it->system);

@@ -31,6 +31,7 @@ static int64_t made(struct sp_system *system, size_t places, size_t slots, size_
         sp_free(&system->coordinator);
         return answer;
     }
+    system->at = system->source.at; /* that of the party changes while a call runs */
     system->next = systems;
     systems = system;
     return 0;
@@ -62,5 +63,6 @@ void sp_system_free(struct sp_system *system) {
         }
     sp_free(&system->source);
     sp_free(&system->coordinator);
+    system->at = NULL;
     pthread_mutex_unlock(&mutex);
 }
