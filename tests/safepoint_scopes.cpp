@@ -122,7 +122,7 @@ static int a_party_starts_again() {
         party = thread.exit();
         failed += !party.live().empty();
         try {
-            thread.poll();
+            thread.back_edge();
             failed++;
         } catch (const Refused &refused) {
             failed += refused.answer() != SP_NOT_THIS;
