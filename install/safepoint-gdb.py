@@ -18,8 +18,9 @@ import struct
 
 import gdb
 
-# The rows and columns of `sp_listed` in safepoint_listed.c, and its entries: a party, a thread of the machine, a name.
-PLACES, SYSTEMS, LISTED = 64, 16, struct.Struct("<3Q")
+# The rows and columns of `sp_listed` in safepoint_listed.c, and its entries: a party, a thread of the machine, a name,
+# and the operation that is served.
+PLACES, SYSTEMS, LISTED = 64, 16, struct.Struct("<4Q")
 # Of crates/parties: Party, with a RunningThread or with its Drive; SharedSystem. Of crates/desk: Desk, Opened.
 FORM = {
     "party": {"system": 0x0, "role": 0x8, "name": 0x10, "place": 0x18, "state": 0x28,
@@ -165,7 +166,7 @@ def listed():
                          "`safepoint system ADDRESS` shows the system of the party at this address") from None
     found, gone = [], 0
     rows = LISTED.iter_unpack(memory(table, (PLACES + 1) * SYSTEMS * LISTED.size))
-    for number, (at, handle, name) in enumerate(rows):
+    for number, (at, handle, name, _) in enumerate(rows):
         if at:
             party = noted(at, handle, name, number // SYSTEMS)
             found, gone = (found + [party], gone) if party else (found, gone + 1)

@@ -6,6 +6,7 @@
 | `crates/safepoint/src/codes.rt` | the home of the numbers, which is proved against the next file |
 | `crates/safepoint/specs/Codes.antt` | the numbers of the contracts |
 | `crates/safepoint/include/safepoint.h` | the numbers by the names of C |
+| `crates/safepoint/include/safepoint_wait.h` | the numbers of the waits alone, below all others |
 | `crates/safepoint/waits/safepoint_text.c` | a text for each name of C |
 | `bindings/rust/src/refusal.rs` | the numbers and the texts of the Rust crate |
 
@@ -23,12 +24,15 @@ ROOT = pathlib.Path(__file__).resolve().parent.parent
 CRATE = "crates/safepoint"
 CODE, SPEC = f"{CRATE}/src/codes.rt", f"{CRATE}/specs/Codes.antt"
 HEADER, TEXTS, RUST = f"{CRATE}/include/safepoint.h", f"{CRATE}/waits/safepoint_text.c", "bindings/rust/src/refusal.rs"
-FILES = CODE, SPEC, HEADER, TEXTS, RUST
+WAITS = f"{CRATE}/include/safepoint_wait.h"
+FILES = CODE, SPEC, HEADER, WAITS, TEXTS, RUST
 
 # Reasons that have a name of their own in the code, and a common one elsewhere.
 COMMON = {"SerialsSpent": "Spent", "NotNotEntrant": "StillInUse", "Runs": "Run"}
 # What no contract says: `sp_make` alone answers BadSize, and NO_MEMORY is a name in the code for what functions answer.
 NOT_STATED = {("", "BadSize"), ("", "NoMemory")}
+# The greatest number of the waits.
+FIRST_OF_WAITS = -100
 # It has some reasons of `fault_code`, and is proved to answer as that.
 NOT_COUNTED = "fault_code_of_step"
 
@@ -56,6 +60,9 @@ PLANTS = (
     (HEADER, "SP_LATE = -36,", ""),
     (HEADER, "SP_LATE = -36,", "SP_LATE = -36, SP_LATER = -39,"),
     (HEADER, "SP_RUN = -37, SP_AWAITS = -38,", "SP_RUN = -38, SP_AWAITS = -37,"),
+    (WAITS, "SP_TIMEOUT = -100", "SP_TIMEOUT = -99"),
+    (WAITS, "SP_TIMEOUT = -100", "SP_TIMEOUT = -101"),
+    (WAITS, "SP_TIMEOUT = -100", "SP_TIMEOUT = -100, SP_LATER = -100"),
     (TEXTS, "{SP_NOT_HELD,", "{SP_HELD,"),
     (TEXTS, '    {SP_LATE, "a thread may still enter the code, or hasn\'t told that it has"},\n', ""),
     (TEXTS, "{SP_RUN,", "{SP_AWAITS,"),
@@ -139,6 +146,13 @@ def faults_of_header(text, home):
     return faults + differences(HEADER, numbers, home)
 
 
+def of_waits(text):
+    """The numbers of the waits, and faults: one that `safepoint.h` may give out."""
+    numbers, faults = by_name(WAITS, [(words_of(name), int(number)) for name, number in OF_HEADER.findall(text)])
+    high = [f"{WAITS}: {name} is above {FIRST_OF_WAITS}" for name, it in numbers.items() if -it > FIRST_OF_WAITS]
+    return numbers, faults + high + ([] if numbers else [f"{WAITS}: no number is found"])
+
+
 def texts_of(text, home):
     """The text of each reason, and faults: a reason with none or two, or one text for two."""
     found, faults = read(TEXTS, text, OF_TEXTS)
@@ -159,12 +173,15 @@ def checks(files):
     """Each check with its faults."""
     said, faults = of_code(files[CODE])
     home, more = home_of(said)
-    texts, of_texts = texts_of(files[TEXTS], home)
+    waits, of_waiting = of_waits(files[WAITS])
+    all_of_c = home | waits
+    texts, of_texts = texts_of(files[TEXTS], all_of_c)
     yield f"{CODE}: the numbers of {len(home)} reasons", faults + more
     yield SPEC, faults_of_spec(files[SPEC], said)
     yield HEADER, faults_of_header(files[HEADER], home)
+    yield WAITS, of_waiting
     yield TEXTS, of_texts
-    yield RUST, faults_of_rust(files[RUST], home, texts)
+    yield RUST, faults_of_rust(files[RUST], all_of_c, texts)
 
 
 def faults_of(files):

@@ -13,6 +13,7 @@ PAGE = ROOT / "docs" / "start" / "EMBEDDING.md"
 SECONDS = 300
 WARNINGS = ["-O2", "-Wall", "-Wextra", "-Werror", "-Wno-unused-parameter"]
 FIRST_STOP = b"operation 1 at place 0\nclosed 1\n"
+THREAD_DUMP = b"late: name 2, place 1, which died\nname 1: 3 frames\nname 2: 3 frames\n"
 MODEL = r"""#include <stdio.h>
 #include <string.h>
 #include <model.h>

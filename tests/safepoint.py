@@ -10,6 +10,10 @@ LIBMODEL is crates/model/out/libmodel.a by default. It takes a minute on a quiet
 | `safepoint_threads.c`: threads at random beside a coordinator | futex, pthread condition, and two sanitizers |
 | `safepoint_threads.c` with -DSP_RECORD: whole logs of calls | with the futex and with the pthread condition |
 | `safepoint_soak.c`: threads start, ask and exit at random | futex, pthread condition, and two sanitizers |
+| `safepoint_late.c`: waits with an end, and who is late | as the soak, and with -DSP_CHECK |
+| `safepoint_dead.c`: threads that died, and are taken over | the same |
+| `safepoint_stats.c`: what is counted, and the lines of a log | the same |
+| the programs in C of docs/start/EMBEDDING.md | they print what the page says |
 | `safepoint_misuse.c` with -DSP_CHECK: each call that a host mustn't make | it dies, with its line |
 | `safepoint_calls.c`, `safepoint_threads.c` and the scopes of C++ with -DSP_CHECK | they run as they do without |
 | `examples/jit` unmaps codes under its threads | with 1, 4 and 16 threads; with --careless it dies of SIGSEGV |
@@ -31,6 +35,7 @@ import sys
 import tempfile
 
 import refusing
+from installed import FIRST_STOP, THREAD_DUMP, block
 from tally import Tally, c_compiler, cpp_compiler
 from toolchain import allocator
 
@@ -48,6 +53,8 @@ VALGRIND = ("valgrind", "-q", "--leak-check=full", "--error-exitcode=9")
 # What takes memory, and so is refused it.
 GROWING = set("sp_make sp_fork sp_start sp_target sp_submit sp_census sp_install sp_reclaim_begin".split())
 GROWING |= {"sp_reply", "sp_operate", "sp_advance", "sp_drive"}
+# The programs in C of docs/start/EMBEDDING.md, and what they print.
+PROGRAMS = {"first_stop.c": FIRST_STOP, "thread_dump.c": THREAD_DUMP}
 # Threads, requests and the seed of each run of safepoint_threads.
 RUNS = ((1, 4000, 1), (4, 1000, 3), (16, 200, 5), (64, 20, 6))
 SLOW_RUNS = ((4, 200, 7), (16, 40, 8))
@@ -210,6 +217,30 @@ def soak(tests):
             tests.judge_run(name, tests.run(program, count, factor * seconds, count), shows=True)
 
 
+ALONE = {"safepoint_late.c": "waits with an end", "safepoint_dead.c": "threads that died",
+         "safepoint_stats.c": "what is counted"}
+
+
+def alone(tests):
+    """Programs that take no words."""
+    for source, what in ALONE.items():
+        for words in ((), (CONDITION,), (RACES,), (MEMORY,), (CHECK,)):
+            name = " ".join((what, *words))
+            program = tests.built(TESTS / source, *words, names=[name])
+            if program:
+                tests.judge_run(name, tests.run(program), b"ok\n")
+
+
+def page(tests):
+    """Each program in C of the page prints what it says there."""
+    for name, says in PROGRAMS.items():
+        source = tests.folder / name
+        source.write_text(block(f"c {name}"))
+        program = tests.built(source, "-Wno-unused-parameter")
+        if program:
+            tests.judge_run(f"{name} of the page", tests.run(program), says)
+
+
 def is_whole(log, count):
     """The log is of this form, each stream's tickets rise, each thread started and exited, and none is closed twice."""
     lines = log.decode().splitlines()
@@ -318,6 +349,8 @@ PARTS = {
     "each call": calls,
     "schedules beside the model": beside,
     "threads at random": threads,
+    "waits with an end, and what is counted": alone,
+    "the programs of the page": page,
     "logs of calls": recorded,
     "a soak": soak,
     "misuses": misuses,

@@ -126,12 +126,17 @@ BODY(reclaim_end, sp_reclaim_end(at, n))
 BODY(text, sp_text((int64_t)n) == NULL)
 BODY(start_thread, sp_start_thread(at, callback, NULL))
 BODY(exit_thread, sp_exit_thread(at, callback, NULL))
+BODY(end_thread, sp_end_thread(at, callback, NULL))
 BODY(enter_native, sp_enter_native(at))
 BODY(leave_native, sp_leave_native(at, callback, NULL))
 BODY(enter_blocked, sp_enter_blocked(at))
 BODY(leave_blocked, sp_leave_blocked(at, callback, NULL))
 BODY(stop, sp_stop(at, callback, NULL))
 BODY(drive, sp_drive(at, callback, NULL))
+BODY(drive_for, sp_drive_for(at, callback, NULL, n))
+BODY(wait_request, sp_wait_request(at, n))
+BODY(wait_closed_for, sp_wait_closed_for(at, n, 0))
+BODY(late, sp_late(at, NULL, 0))
 BODY(drive_four, sp_drive_four(at, callback, NULL))
 BODY(reclaim, sp_reclaim(at, n, callback, NULL))
 BODY(system_make, sp_system_make(&joined, PLACES, SLOTS, METHODS))
@@ -228,7 +233,11 @@ static void of_all(void) {
     for (int i = 0; i < PLACES; i++) ON(release, &coordinator, (uint64_t)i, 0);
     ON(close, &coordinator, 0, 6);
     ON(census, &client, 0, 7);
-    ON(drive, &coordinator, 0, 7);
+    ON(wait_request, &client, 0, 7);
+    ON(wait_closed_for, &client, 7, SP_TIMEOUT);
+    ON(late, &coordinator, 0, 0);
+    ON(drive_for, &coordinator, 0, 7);
+    ON(wait_closed_for, &client, 7, 0);
     for (int i = 0; i < 4; i++) {
         for (int name = 1; name <= PLACES; name++) ON(target, &client, (uint64_t)name, 0);
         ON(submit, &client, 0, 8 + i);
@@ -250,7 +259,8 @@ static void end(void) {
     for (int i = 0; i < FRAMES; i++) ON(ret, &threads[0], 0, 0);
     ON(publish, &threads[0], 0, 0);
     ON(exit, &threads[0], 0, 0);
-    for (int i = 1; i < PLACES; i++) {
+    ON(end_thread, &threads[1], 0, 0);
+    for (int i = 2; i < PLACES; i++) {
         ON(leave_native, &threads[i], 0, 0);
         ON(exit_thread, &threads[i], 0, 0);
     }

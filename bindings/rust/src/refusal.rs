@@ -78,6 +78,7 @@ refusals! {
     BadSize = -41, "a size is 0, or above its limit";
     BadAsk = -42, "there is no such ask";
     Pending = -43, "the operation isn't closed yet";
+    Timeout = -100, "the time is over";
 }
 
 impl Error for Refusal {}

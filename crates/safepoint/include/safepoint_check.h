@@ -75,14 +75,20 @@ int64_t sp_checked_reclaim_end(struct sp_party *coordinator, uint64_t serial);
 int64_t sp_checked_stop(struct sp_party *thread, sp_callback call, void *with);
 int64_t sp_checked_start_thread(struct sp_party *thread, sp_callback call, void *with);
 int64_t sp_checked_exit_thread(struct sp_party *thread, sp_callback call, void *with);
+int64_t sp_checked_end_thread(struct sp_party *thread, sp_callback call, void *with);
 int64_t sp_checked_enter_native(struct sp_party *thread);
 int64_t sp_checked_leave_native(struct sp_party *thread, sp_callback call, void *with);
 int64_t sp_checked_enter_blocked(struct sp_party *thread);
 int64_t sp_checked_leave_blocked(struct sp_party *thread, sp_callback call, void *with);
 int64_t sp_checked_drive(struct sp_party *coordinator, sp_callback call, void *with);
+int64_t sp_checked_drive_for(struct sp_party *coordinator, sp_callback call, void *with,
+                             uint64_t nanoseconds);
 int64_t sp_checked_drive_four(struct sp_party *coordinator, sp_callback call, void *with);
 int64_t sp_checked_at_safepoint(struct sp_party *coordinator, sp_callback call, void *with);
 int64_t sp_checked_wait_closed(struct sp_party *party, uint64_t number);
+int64_t sp_checked_wait_closed_for(struct sp_party *party, uint64_t number, uint64_t nanoseconds);
+int64_t sp_checked_wait_request(struct sp_party *party, uint64_t nanoseconds);
+int64_t sp_checked_late(struct sp_party *coordinator, struct sp_late_thread *list, size_t room);
 int64_t sp_checked_reclaim(struct sp_party *coordinator, uint64_t serial, sp_callback call,
                            void *with);
 int64_t sp_checked_unwind_to(struct sp_party *thread, size_t depth);
@@ -153,14 +159,19 @@ void sp_checked_moved(struct sp_party *party);
 #define sp_stop sp_checked_stop
 #define sp_start_thread sp_checked_start_thread
 #define sp_exit_thread sp_checked_exit_thread
+#define sp_end_thread sp_checked_end_thread
 #define sp_enter_native sp_checked_enter_native
 #define sp_leave_native sp_checked_leave_native
 #define sp_enter_blocked sp_checked_enter_blocked
 #define sp_leave_blocked sp_checked_leave_blocked
 #define sp_drive sp_checked_drive
+#define sp_drive_for sp_checked_drive_for
 #define sp_drive_four sp_checked_drive_four
 #define sp_at_safepoint sp_checked_at_safepoint
 #define sp_wait_closed sp_checked_wait_closed
+#define sp_wait_closed_for sp_checked_wait_closed_for
+#define sp_wait_request sp_checked_wait_request
+#define sp_late sp_checked_late
 #define sp_reclaim sp_checked_reclaim
 #define sp_unwind_to sp_checked_unwind_to
 #define sp_unwind_thread sp_checked_unwind_thread

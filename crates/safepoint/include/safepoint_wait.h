@@ -30,6 +30,9 @@ struct sp_served {
 };
 typedef void (*sp_callback)(void *with, const struct sp_served *served);
 
+/* The refusals of this page: their numbers are below those of safepoint.h. SP_TIMEOUT: the time is over. */
+enum { SP_TIMEOUT = -100 };
+
 /* Words for an answer. */
 const char *sp_text(int64_t answer);
 
@@ -39,7 +42,9 @@ struct sp_pause {
 };
 /* After a try: if the answer is SP_AGAIN, rests a while and returns true, and the caller tries again. */
 bool sp_again(int64_t answer, struct sp_pause *pause);
-/* After a call of safepoint.h that may let another thread continue: wakes all that sleep here. */
+/* Wakes all that sleep here. A host calls it after a call of safepoint.h that may let another thread
+   continue, and after sp_submit, sp_census or sp_reclaim_begin if a coordinator waits in
+   sp_wait_request. */
 void sp_ring(void);
 
 /* A SYSTEM as a value that threads share. The caller owns its memory, which is all zeros at first and
@@ -89,6 +94,11 @@ int64_t sp_enter_native(struct sp_party *thread);
 int64_t sp_leave_native(struct sp_party *thread, sp_callback call, void *with);
 int64_t sp_enter_blocked(struct sp_party *thread);
 int64_t sp_leave_blocked(struct sp_party *thread, sp_callback call, void *with);
+/* Ends a thread wherever it is, and returns 0: it serves what stops it, leaves native code, a wait, the
+   VM and all methods, and exits. A callback that had begun isn't run again. This is also for a thread
+   whose thread of the host died outside of all calls: the party passes to another thread of the host,
+   which makes this call, and isn't the one that drives. */
+int64_t sp_end_thread(struct sp_party *thread, sp_callback call, void *with);
 
 /* The coordinator. sp_drive works on the oldest open request, or else on the oldest waiting one,
    until it is closed, and returns its number; SP_QUEUE_EMPTY. After SP_NO_MEMORY the request may be
@@ -102,6 +112,66 @@ int64_t sp_drive_four(struct sp_party *coordinator, sp_callback call, void *with
 int64_t sp_at_safepoint(struct sp_party *coordinator, sp_callback call, void *with);
 /* Any party: waits until the request of the number, and each before it, is closed. Returns 0. */
 int64_t sp_wait_closed(struct sp_party *party, uint64_t number);
+
+/* WAITS WITH AN END. Each waits for so many nanoseconds at most, by CLOCK_MONOTONIC, and then returns
+   SP_TIMEOUT. With 0 it does what it can, and waits for no thread. UINT64_MAX is no end.
+   sp_drive_for is sp_drive otherwise. The time bounds its waits, and no callback. After SP_TIMEOUT the
+   request stays open, its targets still stop for it, and a census keeps the threads that it holds: the
+   next sp_drive or sp_drive_for continues. */
+int64_t sp_drive_for(struct sp_party *coordinator, sp_callback call, void *with,
+                     uint64_t nanoseconds);
+int64_t sp_wait_closed_for(struct sp_party *party, uint64_t number, uint64_t nanoseconds);
+/* Any party: waits until a request is open or waits, and returns the least number of these. Who
+   asks by safepoint.h wakes it by sp_ring. Otherwise it looks by itself, after at most 16 ms. */
+int64_t sp_wait_request(struct sp_party *party, uint64_t nanoseconds);
+
+/* A thread that a stop awaits: its name, its place, and a hint about what it does. SP_LATE_RUNS: it
+   hasn't come to a stop. SP_LATE_SERVES: it runs its callback for `operation`, which is 0 otherwise.
+   SP_LATE_UNKNOWN: the host stops the thread by its own loops, or another system of the process has a
+   thread of this name at this place that does something else. */
+enum { SP_LATE_UNKNOWN = 0, SP_LATE_RUNS = 1, SP_LATE_SERVES = 2 };
+struct sp_late_thread {
+    uint64_t name;
+    size_t place;
+    int state;
+    uint64_t operation;
+};
+/* Who is late, after SP_TIMEOUT of sp_drive_for or SP_AWAITS of sp_advance: lists up to `room` of the
+   threads that are awaited, by rising names, and returns how many there are. After any other answer
+   the list is an old one. It doesn't wait, and returns 0 for any party but the coordinator. */
+int64_t sp_late(struct sp_party *coordinator, struct sp_late_thread *list, size_t room);
+
+/* HOW LONG STOPS TAKE, in this process, by the calls of this page. It costs one load and a branch where
+   a call waits, stops or drives, unless it is asked for. sp_stats_on(true) begins to count, from zero;
+   sp_stats_on(false) ends that. sp_stats reads what was counted, and other threads may count meanwhile.
+
+   to_handshake    from the beginning of the drive until the last target came, for each handshake
+   to_safepoint    from the beginning of the drive until all threads were held, for each census
+   callbacks       each run of a callback
+   spins .. naps   what threads and coordinators did while they waited
+   wakes           how often a ring found sleepers
+
+   Times are in nanoseconds: their sum, the greatest, and in powers[i] how many were at least 2^i and
+   below 2^(i+1); powers[0] has those of 0 too. A request on which several drives work begins with the
+   first. */
+enum { SP_POWERS = 64 };
+struct sp_times {
+    uint64_t sum, greatest, powers[SP_POWERS];
+};
+struct sp_statistics {
+    uint64_t handshakes, censuses; /* that were closed */
+    struct sp_times to_handshake, to_safepoint, callbacks;
+    uint64_t spins, yields, naps, wakes;
+};
+void sp_stats_on(bool on);
+void sp_stats(struct sp_statistics *stats);
+/* Calls the writer with a line for each request that a drive closes, in the form of -Xlog:safepoint and
+   -Xlog:handshake of HotSpot. NULL ends that. The line has no newline, and is gone after the call. The
+   writer runs in the thread that drives, after the threads continue, and makes no call with the
+   coordinator. No coordinator drives while sp_log_to is called. Targeted threads are those that still
+   live. */
+void sp_log_to(void (*writer)(void *with, const char *line), void *with);
+
 /* Reclaims a code that no thread enters any more, by a handshake of all threads that live then, in
    place of the coordinator's own targets. Returns 0 if the code is freed, else how many frames of it
    are on stacks; SP_LATE; and what sp_reclaim_begin and sp_drive return, but never SP_BAD_TARGETS.

@@ -11,15 +11,26 @@ enum {
 
 struct waiting sp_waiting;
 
-long sp_waiting_length(unsigned before) { return (long)NAP << (before < DOUBLED ? before : DOUBLED); }
+uint64_t sp_waiting_now(void) {
+    struct timespec now;
+    clock_gettime(CLOCK_MONOTONIC, &now);
+    return (uint64_t)now.tv_sec * 1000000000 + (uint64_t)now.tv_nsec;
+}
+
+long sp_waiting_length(unsigned before, uint64_t end) {
+    long nap = (long)NAP << (before < DOUBLED ? before : DOUBLED);
+    if (end == NEVER) return nap;
+    uint64_t now = sp_waiting_now(), left = now < end ? end - now : 0;
+    return left < (uint64_t)nap ? (long)left : nap;
+}
 
 #ifdef SP_PTHREAD
 static pthread_mutex_t mutex = PTHREAD_MUTEX_INITIALIZER;
 static pthread_cond_t changed = PTHREAD_COND_INITIALIZER; /* for both bells: who wakes for nothing tries again */
-void sp_waiting_nap(struct bell *bell, unsigned seen, unsigned before) {
+void sp_waiting_nap(struct bell *bell, unsigned seen, long nanoseconds) {
     struct timespec until;
     clock_gettime(CLOCK_REALTIME, &until);
-    until.tv_nsec += sp_waiting_length(before);
+    until.tv_nsec += nanoseconds;
     if (until.tv_nsec >= 1000000000) until.tv_sec++, until.tv_nsec -= 1000000000;
     pthread_mutex_lock(&mutex);
     if (atomic_load(&bell->rings) == seen) pthread_cond_timedwait(&changed, &mutex, &until);
@@ -36,8 +47,8 @@ void sp_waiting_wake(struct bell *bell) {
 #include <linux/futex.h>
 #include <sys/syscall.h>
 #include <unistd.h>
-void sp_waiting_nap(struct bell *bell, unsigned seen, unsigned before) {
-    struct timespec most = {0, sp_waiting_length(before)};
+void sp_waiting_nap(struct bell *bell, unsigned seen, long nanoseconds) {
+    struct timespec most = {0, nanoseconds};
     syscall(SYS_futex, &bell->rings, FUTEX_WAIT_PRIVATE, seen, &most, NULL, 0);
 }
 void sp_waiting_wake(struct bell *bell) {
@@ -60,17 +71,21 @@ void sp_ring(void) {
     ring(&sp_waiting.gone);
 }
 
-/* Between two tries. It sleeps only if no bell rang since it read `seen`, which was before the last try. */
-static void rest(struct sp_pause *pause) {
+/* It sleeps only if the bell didn't ring since it read `seen`, which was before the last try. */
+void sp_waiting_rest(struct sp_pause *pause, uint64_t end) {
     unsigned turn = pause->turns++;
     if (turn < TRIES) {
+        count(OF_SPINS, 1);
         for (unsigned i = 0; i < 1u << (turn < FEW ? turn / 2 : 3); i++) PAUSE();
     } else if (turn < TRIES + YIELDS) {
+        count(OF_YIELDS, 1);
         sched_yield();
     } else {
+        count(OF_NAPS, 1);
+        long most = sp_waiting_length(turn - TRIES - YIELDS, end);
         atomic_fetch_add(&sp_waiting.gone.sleepers, 1);
-        PROBE(wait__begin, 0, sp_waiting_length(turn - TRIES - YIELDS));
-        sp_waiting_nap(&sp_waiting.gone, pause->seen, turn - TRIES - YIELDS);
+        PROBE(wait__begin, 0, most);
+        sp_waiting_nap(&sp_waiting.gone, pause->seen, most);
         PROBE(wait__end, 0);
         atomic_fetch_sub(&sp_waiting.gone.sleepers, 1);
     }
@@ -79,6 +94,6 @@ static void rest(struct sp_pause *pause) {
 
 bool sp_again(int64_t answer, struct sp_pause *pause) {
     if (answer != SP_AGAIN) return false;
-    rest(pause);
+    sp_waiting_rest(pause, NEVER);
     return true;
 }

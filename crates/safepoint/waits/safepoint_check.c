@@ -288,6 +288,8 @@ WAITS(stop, (struct sp_party *thread, sp_callback call, void *with), (thread, ru
 WAITS(leave_native, (struct sp_party *thread, sp_callback call, void *with), (thread, run, host), thread)
 WAITS(leave_blocked, (struct sp_party *thread, sp_callback call, void *with), (thread, run, host), thread)
 WAITS(drive, (struct sp_party *coordinator, sp_callback call, void *with), (coordinator, run, host), coordinator)
+WAITS(drive_for, (struct sp_party *coordinator, sp_callback call, void *with, uint64_t nanoseconds),
+      (coordinator, run, host, nanoseconds), coordinator)
 WAITS(drive_four, (struct sp_party *coordinator, sp_callback call, void *with), (coordinator, run, host), coordinator)
 WAITS(at_safepoint, (struct sp_party *coordinator, sp_callback call, void *with), (coordinator, run, host), coordinator)
 WAITS(reclaim, (struct sp_party *coordinator, uint64_t serial, sp_callback call, void *with),
@@ -316,35 +318,36 @@ int64_t sp_checked_start_thread(struct sp_party *thread, sp_callback call, void 
     return answer;
 }
 
-int64_t sp_checked_exit_thread(struct sp_party *thread, sp_callback call, void *with) {
-    struct entered it = enter_wait("sp_exit_thread", thread);
-    struct host host = {call, with, it.note};
-    int64_t answer = sp_exit_thread(thread, call && it.note ? called : NULL, &host);
-    if (answer == 0) note_place(it, -1);
-    leave(it);
-    return answer;
-}
+/* A call that ends the thread. */
+#define ENDS(name)                                                                            \
+    int64_t sp_checked_##name(struct sp_party *thread, sp_callback call, void *with) {        \
+        struct entered it = enter_wait("sp_" #name, thread);                                  \
+        struct host host = {call, with, it.note};                                             \
+        int64_t answer = sp_##name(thread, call && it.note ? called : NULL, &host);           \
+        if (answer == 0) note_place(it, -1);                                                  \
+        leave(it);                                                                            \
+        return answer;                                                                        \
+    }
+ENDS(exit_thread)
+ENDS(end_thread)
 
-int64_t sp_checked_wait_closed(struct sp_party *party, uint64_t number) {
-    struct entered it = enter_wait("sp_wait_closed", party);
-    int64_t answer = sp_wait_closed(party, number);
-    leave(it);
-    return answer;
-}
+/* The same without a callback. */
+#define WAITS_ALONE(name, parameters, arguments, party)                        \
+    int64_t sp_checked_##name parameters {                                     \
+        struct entered it = enter_wait("sp_" #name, party);                    \
+        int64_t answer = sp_##name arguments;                                  \
+        leave(it);                                                             \
+        return answer;                                                         \
+    }
+WAITS_ALONE(enter_native, (struct sp_party *thread), (thread), thread)
+WAITS_ALONE(enter_blocked, (struct sp_party *thread), (thread), thread)
+WAITS_ALONE(wait_closed, (struct sp_party *party, uint64_t number), (party, number), party)
+WAITS_ALONE(wait_closed_for, (struct sp_party *party, uint64_t number, uint64_t nanoseconds),
+            (party, number, nanoseconds), party)
+WAITS_ALONE(wait_request, (struct sp_party *party, uint64_t nanoseconds), (party, nanoseconds), party)
 
-int64_t sp_checked_enter_native(struct sp_party *thread) {
-    struct entered it = enter_wait("sp_enter_native", thread);
-    int64_t answer = sp_enter_native(thread);
-    leave(it);
-    return answer;
-}
-
-int64_t sp_checked_enter_blocked(struct sp_party *thread) {
-    struct entered it = enter_wait("sp_enter_blocked", thread);
-    int64_t answer = sp_enter_blocked(thread);
-    leave(it);
-    return answer;
-}
+CHECKED(late, (struct sp_party *coordinator, struct sp_late_thread *list, size_t room), (coordinator, list, room),
+        coordinator)
 
 /* --- systems that threads share --- */
 

@@ -1,4 +1,4 @@
-/* The loops of the coordinator, and of any party that waits for a request to close. */
+/* The loops of the coordinator: it drives requests. */
 #include "safepoint_waiting.h"
 
 enum { LOOKS = 40 }; /* times that a drive looks for threads that are late, before it sleeps */
@@ -20,15 +20,19 @@ static struct late begin(void) {
 }
 
 /* Waits until so many more have come, or for one nap. */
-static void wait_for(struct late *it, unsigned awaited) {
+static void wait_for(struct late *it, unsigned awaited, uint64_t end) {
     unsigned wanted = it->came + (awaited ? awaited : 1), seen = atomic_load(&sp_waiting.come.rings);
     atomic_store(&sp_waiting.wanted, wanted);
+    int looks = it->looks;
     while (it->looks > 0 && !are_here(wanted)) it->looks--, PAUSE();
+    count(OF_SPINS, (unsigned)(looks - it->looks));
     if (!are_here(wanted)) {
         atomic_fetch_add(&sp_waiting.come.sleepers, 1);
         if (!are_here(wanted)) {
-            PROBE(wait__begin, awaited, sp_waiting_length(it->naps));
-            sp_waiting_nap(&sp_waiting.come, seen, it->naps++);
+            long most = sp_waiting_length(it->naps++, end);
+            count(OF_NAPS, 1);
+            PROBE(wait__begin, awaited, most);
+            sp_waiting_nap(&sp_waiting.come, seen, most);
             PROBE(wait__end, awaited);
         }
         atomic_fetch_sub(&sp_waiting.come.sleepers, 1);
@@ -42,40 +46,54 @@ static bool runs(int64_t answer) { return answer == SP_RUN || answer == SP_AT_SA
 static void run_called(struct sp_party *coordinator, int64_t answer, sp_callback call, void *with) {
     int64_t operation = sp_called_operation(coordinator), place = sp_called_place(coordinator);
     int kind = answer == SP_RUN ? SP_HANDSHAKE : SP_CENSUS;
+    uint64_t begun = call_begins();
     PROBE(callback__begin, operation, 0, place);
     call(with, &(struct sp_served){(uint64_t)operation, (size_t)place, NULL, kind});
     PROBE(callback__end, operation, 0, place);
+    call_ends(begun);
 }
 
 /* It rings for threads that it let go: at once if some of them sleep, and always before it waits, since some may be
    about to sleep. */
-int64_t sp_drive(struct sp_party *coordinator, sp_callback call, void *with) {
+static int64_t drive(struct sp_party *coordinator, sp_callback call, void *with, uint64_t end) {
     PROBE(request__begin, (int64_t)coordinator);
     sp_waiting_list(PLACES, coordinator, 0);
+    if (is_asked()) sp_waiting_saw(coordinator, SP_AGAIN);
     struct late late = begin();
     struct sp_pause pause = {0, 0};
     int64_t answer;
     bool is_census = false;
     for (bool lets_go = false;; lets_go |= runs(answer)) {
         answer = sp_advance(coordinator);
+        if (is_asked()) sp_waiting_saw(coordinator, answer);
         if (lets_go && (answer == SP_AWAITS || atomic_load(&sp_waiting.gone.sleepers))) ring(&sp_waiting.gone);
         if (answer != SP_AGAIN) pause.turns = 0;
         is_census |= answer == SP_AT_SAFEPOINT;
         if (runs(answer)) {
             if (call) run_called(coordinator, answer, call, with);
-        } else if (answer == SP_AWAITS) {
+        } else if (answer == SP_AWAITS && !is_over(end)) {
             lets_go = false;
-            wait_for(&late, (unsigned)sp_awaited(coordinator));
-        } else if (!sp_again(answer, &pause)) {
+            wait_for(&late, (unsigned)sp_awaited(coordinator), end);
+        } else if (answer != SP_AGAIN || !rests(&pause, end)) {
             break;
         }
     }
-    sp_polls_end();
+    if (answer == SP_AWAITS || answer == SP_AGAIN) answer = SP_TIMEOUT;
+    for (unsigned ends = sp_waiting_leaves(coordinator, answer == SP_TIMEOUT); ends; ends--) sp_polls_end();
     ring(&sp_waiting.gone);
     atomic_fetch_add(&sp_waiting.ended, 1);
     if (is_census) sp_waiting_let_start();
     PROBE(request__end, (int64_t)coordinator, answer);
+    if (is_asked()) sp_waiting_drove(coordinator, answer);
     return answer;
+}
+
+int64_t sp_drive(struct sp_party *coordinator, sp_callback call, void *with) {
+    return drive(coordinator, call, with, NEVER);
+}
+
+int64_t sp_drive_for(struct sp_party *coordinator, sp_callback call, void *with, uint64_t nanoseconds) {
+    return drive(coordinator, call, with, end_after(nanoseconds));
 }
 
 /* Drives until the request of the number is closed, where there is one. */
@@ -90,16 +108,6 @@ int64_t sp_at_safepoint(struct sp_party *coordinator, sp_callback call, void *wi
     int64_t number;
     SP_WAIT(number, sp_census(coordinator));
     return number < 0 ? number : drive_to(coordinator, number, call, with);
-}
-
-int64_t sp_wait_closed(struct sp_party *party, uint64_t number) {
-    struct sp_pause pause = {0, 0};
-    for (int64_t pending;;) {
-        SP_WAIT(pending, sp_pending(party));
-        if (pending < 0) return pending;
-        if (!pending || (uint64_t)pending > number) return 0;
-        sp_again(SP_AGAIN, &pause);
-    }
 }
 
 int64_t sp_drive_four(struct sp_party *coordinator, sp_callback call, void *with) {

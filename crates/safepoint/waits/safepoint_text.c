@@ -47,6 +47,7 @@ static const struct {
     {SP_BAD_SIZE, "a size is 0, or above its limit"},
     {SP_BAD_ASK, "there is no such ask"},
     {SP_PENDING, "the operation isn't closed yet"},
+    {SP_TIMEOUT, "the time is over"},
 };
 
 const char *sp_text(int64_t answer) {

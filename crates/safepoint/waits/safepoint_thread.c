@@ -13,7 +13,9 @@ static void come(void) {
    more threads run than there are processors, the coordinator and the threads that have still to come get one
    sooner. */
 static void give_way(unsigned ended) {
-    for (int turn = 0; turn < YIELDS && atomic_load(&sp_waiting.ended) == ended; turn++) sched_yield();
+    unsigned turn = 0;
+    for (; turn < YIELDS && atomic_load(&sp_waiting.ended) == ended; turn++) sched_yield();
+    count(OF_YIELDS, turn);
 }
 
 /* The operation to serve now, or 0. A thread whose stack a census keeps has come, and waits. */
@@ -31,9 +33,14 @@ static int64_t next_of(struct sp_party *thread) {
 static int64_t serve(struct sp_party *thread, int64_t operation, sp_callback call, void *with) {
     int64_t told;
     if (call) {
-        PROBE(callback__begin, operation, sp_name(thread), sp_place(thread));
-        call(with, &(struct sp_served){(uint64_t)operation, (size_t)sp_place(thread), thread, SP_HANDSHAKE});
-        PROBE(callback__end, operation, sp_name(thread), sp_place(thread));
+        size_t place = (size_t)sp_place(thread);
+        uint64_t begun = call_begins();
+        sp_waiting_serves(place, thread, operation);
+        PROBE(callback__begin, operation, sp_name(thread), (int64_t)place);
+        call(with, &(struct sp_served){(uint64_t)operation, place, thread, SP_HANDSHAKE});
+        PROBE(callback__end, operation, sp_name(thread), (int64_t)place);
+        sp_waiting_serves(place, thread, 0);
+        call_ends(begun);
     }
     SP_WAIT(told, sp_stop_serve(thread));
     return told;
@@ -117,6 +124,28 @@ int64_t sp_exit_thread(struct sp_party *thread, sp_callback call, void *with) {
         PROBE(stop__end, sp_name(thread), sp_place(thread));
         if (operation < 0 || answer < 0) return operation < 0 ? operation : answer;
     }
+}
+
+/* One step towards a thread in Java without frames. Returns what the step's poll returns. */
+static int64_t step_out(struct sp_party *thread, sp_callback call, void *with) {
+    int64_t answer;
+    switch (sp_state(thread)) {
+    case SP_AT_POLL: return sp_stop(thread, call, with);
+    case SP_IN_NATIVE: return sp_leave_native(thread, call, with);
+    case SP_BLOCKED: return sp_leave_blocked(thread, call, with);
+    case SP_IN_VM: return sp_from_vm(thread);
+    case SP_SERVING:
+        SP_WAIT(answer, sp_stop_serve(thread));
+        come();
+        return answer;
+    default: return sp_ret(thread);
+    }
+}
+
+int64_t sp_end_thread(struct sp_party *thread, sp_callback call, void *with) {
+    int64_t answer = sp_state(thread) == SP_IN_JAVA ? sp_back_edge(thread) : 0; /* what it owes sees the whole stack */
+    while (answer >= 0) answer = step_out(thread, call, with);
+    return answer == SP_EMPTY_STACK ? sp_exit_thread(thread, call, with) : answer;
 }
 
 int64_t sp_enter_native(struct sp_party *thread) { return given(sp_to_native(thread), sp_to_native, thread); }
