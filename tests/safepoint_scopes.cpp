@@ -1,6 +1,7 @@
 /* Threads of C++ by scopes, beside a coordinator: each callback runs once for each target, exceptions leave scopes, and a refused start keeps the
    party. It ends by itself. tests/safepoint.py builds and runs it. */
 #include <atomic>
+#include <chrono>
 #include <cstdio>
 #include <memory>
 #include <thread>
@@ -158,6 +159,28 @@ static int threads_join_at_once(int threads) {
     return failed + (last.name() != static_cast<std::uint64_t>(threads * lives) + 1) + (ran == 0);
 }
 
+/* A thread that doesn't poll is late, and the request stays open; then it polls. */
+static int a_late_thread_is_named() {
+    using std::chrono::milliseconds;
+    System system(2, 1, 1);
+    auto client = system.fork();
+    Thread thread(system.fork());
+    safepoint::stats_on(true);
+    int failed = system.wait_request(milliseconds(0)) != 0 || client.wait_closed_for(1, milliseconds(0)) != true;
+    auto operation = client.submit_to_all();
+    failed += system.wait_request(milliseconds(0)) != operation;
+    failed += system.drive_for(milliseconds(1)) != 0 || client.wait_closed_for(operation, milliseconds(1));
+    auto late = system.late();
+    failed += late.size() != 1 || late[0].name != thread.name() || late[0].place != thread.place();
+    failed += late.empty() || late[0].state != SP_LATE_RUNS || system.pending() != operation;
+    thread.poll();
+    failed += system.drive_for(std::chrono::hours(1)) != operation;
+    failed += !client.wait_closed_for(operation, milliseconds(0));
+    auto stats = safepoint::stats();
+    safepoint::stats_on(false);
+    return failed + (stats.handshakes != 1) + (stats.censuses != 0) + (stats.callbacks.sum == 0);
+}
+
 static int callbacks_run_once() {
     constexpr int threads = 3, rounds = 100;
     safepoint::System system(8, 16, 4);
@@ -225,7 +248,7 @@ static int callbacks_run_once() {
 
 int main() {
     alarm(300);
-    int failed = callbacks_run_once() + a_thread_asks() + a_party_starts_again();
+    int failed = callbacks_run_once() + a_thread_asks() + a_party_starts_again() + a_late_thread_is_named();
     for (int threads : {1, 4, 16})
         failed += exceptions_leave_scopes(threads) + refused_starts_keep_their_parties(threads);
     for (int threads : {1, 4, 64}) failed += threads_join_at_once(threads);

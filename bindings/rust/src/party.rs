@@ -2,10 +2,11 @@
 use crate::client::Client;
 use crate::refusal::Refusal;
 use crate::sys;
-use crate::waiting::{answer, wait};
+use crate::waiting::{answer, nanoseconds, wait};
 use std::cell::{Cell, UnsafeCell};
 use std::fmt;
 use std::os::raw::c_int;
+use std::time::Duration;
 
 /// Of which kind a request is.
 #[derive(Clone, Copy, Debug, PartialEq, Eq, Hash)]
@@ -164,7 +165,7 @@ impl Party {
         let (asks, serial) = ask.in_c();
         answer(self.once(sys::sp_target_all))?;
         // SAFETY: as in `once`.
-        wait(|| unsafe { sys::sp_submit(self.raw(), asks, serial) })
+        asked(wait(|| unsafe { sys::sp_submit(self.raw(), asks, serial) }))
     }
 
     /// The least number of a request that is open or waits, or None: all requests below it are closed.
@@ -185,12 +186,31 @@ impl Party {
         answer(unsafe { sys::sp_wait_closed(self.raw(), number) }).map(drop)
     }
 
+    /// The same for so long at most.
+    ///
+    /// # Errors
+    /// [`Refusal::Timeout`]: the time is over.
+    pub fn wait_closed_for(&self, number: u64, time: Duration) -> Result<(), Refusal> {
+        // SAFETY: as in `once`.
+        answer(unsafe { sys::sp_wait_closed_for(self.raw(), number, nanoseconds(time)) }).map(drop)
+    }
+
+    /// Waits for so long at most until a request is open or waits, and answers the least number of these. It wakes at
+    /// once where a `Party` of this crate asks.
+    ///
+    /// # Errors
+    /// [`Refusal::Timeout`]: the time is over.
+    pub fn wait_request(&self, time: Duration) -> Result<u64, Refusal> {
+        // SAFETY: as in `once`.
+        answer(unsafe { sys::sp_wait_request(self.raw(), nanoseconds(time)) })
+    }
+
     /// Submits a census of all threads, and answers its number. It waits until the coordinator works on it.
     ///
     /// # Errors
     /// [`Refusal::Spent`], [`Refusal::QueueFull`], [`Refusal::HistoryFull`], [`Refusal::NoMemory`].
     pub fn census(&self) -> Result<u64, Refusal> {
-        wait(|| self.once(sys::sp_census))
+        asked(wait(|| self.once(sys::sp_census)))
     }
 
     /// Begins to reclaim a code that no thread enters any more: submits a handshake with the threads of these names,
@@ -268,9 +288,9 @@ impl Party {
             // SAFETY: as in `once`.
             answer(unsafe { sys::sp_target(self.raw(), *name) }).map(drop)
         });
-        let asked = named.and_then(|()| wait(|| request(self.raw())));
-        self.has_old_targets.set(asked == Err(Refusal::NoMemory));
-        asked
+        let answered = named.and_then(|()| wait(|| request(self.raw())));
+        self.has_old_targets.set(answered == Err(Refusal::NoMemory));
+        asked(answered)
     }
 
     /// A request that is refused takes the targets, except for want of memory. No code has the serial 0.
@@ -285,6 +305,13 @@ impl Party {
         }
         Ok(())
     }
+}
+
+/// A coordinator wakes that waits for requests.
+fn asked(answer: Result<u64, Refusal>) -> Result<u64, Refusal> {
+    // SAFETY: it takes nothing.
+    unsafe { sys::sp_ring() };
+    answer
 }
 
 impl fmt::Debug for Party {

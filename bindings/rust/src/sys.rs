@@ -100,15 +100,61 @@ extern "C" {
     pub fn sp_called_operation(coordinator: *mut Party) -> i64;
     pub fn sp_called_place(coordinator: *mut Party) -> i64;
     pub fn sp_awaited(coordinator: *mut Party) -> i64;
-    pub fn sp_awaited_after(coordinator: *mut Party, name: u64) -> i64;
-    pub fn sp_awaited_place(coordinator: *mut Party, name: u64) -> i64;
     pub fn sp_counted(coordinator: *mut Party, serial: u64) -> i64;
     pub fn sp_reclaim_begin(party: *mut Party, serial: u64) -> i64;
     pub fn sp_reclaim_end(coordinator: *mut Party, serial: u64) -> i64;
 }
 
+/// A thread that a stop awaits.
+#[repr(C)]
+#[derive(Clone, Copy, Default)]
+pub struct LateThread {
+    pub name: u64,
+    pub place: usize,
+    pub state: c_int,
+    pub operation: u64,
+}
+
+/// The states of a late thread of which something is known.
+pub const LATE_RUNS: c_int = 1;
+pub const LATE_SERVES: c_int = 2;
+
+/// How many powers of two have a count.
+pub const POWERS: usize = 64;
+
+#[repr(C)]
+pub struct Times {
+    pub sum: u64,
+    pub greatest: u64,
+    pub powers: [u64; POWERS],
+}
+
+#[repr(C)]
+pub struct Statistics {
+    pub handshakes: u64,
+    pub censuses: u64,
+    pub to_handshake: Times,
+    pub to_safepoint: Times,
+    pub callbacks: Times,
+    pub spins: u64,
+    pub yields: u64,
+    pub naps: u64,
+    pub wakes: u64,
+}
+
 // Of libsafepoint_wait.a.
 extern "C" {
+    pub fn sp_drive_for(
+        coordinator: *mut Party,
+        call: Callback,
+        with: *mut c_void,
+        nanoseconds: u64,
+    ) -> i64;
+    pub fn sp_wait_closed_for(party: *mut Party, number: u64, nanoseconds: u64) -> i64;
+    pub fn sp_wait_request(party: *mut Party, nanoseconds: u64) -> i64;
+    pub fn sp_late(coordinator: *mut Party, list: *mut LateThread, room: usize) -> i64;
+    pub fn sp_stats_on(on: bool);
+    pub fn sp_stats(stats: *mut Statistics);
     pub fn sp_again(answer: i64, pause: *mut Pause) -> bool;
     pub fn sp_ring();
     pub fn sp_system_make(system: *mut System, places: usize, slots: usize, methods: usize) -> i64;

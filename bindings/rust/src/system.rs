@@ -4,9 +4,10 @@ use crate::party::{Kind, Party};
 use crate::refusal::Refusal;
 use crate::shared::System;
 use crate::sys;
-use crate::waiting::{answer, wait};
+use crate::waiting::{answer, nanoseconds, wait};
 use std::ops::Deref;
 use std::os::raw::c_void;
+use std::time::Duration;
 
 /// What became of a code.
 #[derive(Clone, Copy, Debug, PartialEq, Eq, Hash)]
@@ -42,6 +43,45 @@ pub enum Next {
     /// So many threads have still to come to a safe point. They come by themselves.
     Awaits(u64),
 }
+
+/// What a thread does that hasn't come, as far as that is known.
+#[derive(Clone, Copy, Debug, PartialEq, Eq, Hash)]
+pub enum Doing {
+    /// Another system has a thread of this name at this place, which does something else.
+    Unknown,
+    /// It runs, and hasn't come to a stop.
+    Runs,
+    /// It runs its callback for this operation.
+    Serves(u64),
+}
+
+/// A thread that a stop awaits.
+#[derive(Clone, Copy, Debug, PartialEq, Eq, Hash)]
+pub struct LateThread {
+    /// Its name.
+    pub name: u64,
+    /// Its place.
+    pub place: usize,
+    /// A hint about what it does.
+    pub doing: Doing,
+}
+
+impl LateThread {
+    fn of(late: &sys::LateThread) -> LateThread {
+        LateThread {
+            name: late.name,
+            place: late.place,
+            doing: match late.state {
+                sys::LATE_RUNS => Doing::Runs,
+                sys::LATE_SERVES => Doing::Serves(late.operation),
+                _ => Doing::Unknown,
+            },
+        }
+    }
+}
+
+/// The most threads that a system has.
+const PLACES: usize = 64;
 
 /// A system of threads, as its coordinator: it works on what parties asked for. It asks what any [`Party`] may ask.
 ///
@@ -131,6 +171,55 @@ impl Safepoints {
             sys::sp_drive(party, call, with)
         })
         .resume()
+    }
+
+    /// The same for so long at most. The time bounds waits, and no callback.
+    ///
+    /// # Errors
+    /// Those of [`drive`](Safepoints::drive), and [`Refusal::Timeout`]: the time is over. The request stays open then,
+    /// a census keeps the threads that it holds, and the next drive continues.
+    ///
+    /// # Panics
+    /// Where the callback panics. The request is closed then, unless the time is over.
+    ///
+    /// ```
+    /// use safepoint::{Ask, Doing, Refusal, Safepoints};
+    /// use std::time::Duration;
+    ///
+    /// let mut system = Safepoints::new(2, 4, 1)?;
+    /// let mut thread = system.client()?.start(|_served| {})?;
+    /// let operation = system.submit_to_all(Ask::Depth)?;
+    /// let soon = Duration::from_millis(1);
+    /// assert_eq!(system.drive_for(soon, |_served| {}), Err(Refusal::Timeout));
+    /// let late = system.late()?;
+    /// assert_eq!((late[0].name, late[0].doing), (thread.name(), Doing::Runs));
+    /// thread.poll()?;
+    /// assert_eq!(system.drive_for(soon, |_served| {}), Ok(operation));
+    /// # Ok::<(), Refusal>(())
+    /// ```
+    pub fn drive_for(
+        &mut self,
+        time: Duration,
+        callback: impl FnMut(Served),
+    ) -> Result<u64, Refusal> {
+        // SAFETY: as in `drive`.
+        self.running(callback, |party, call, with| unsafe {
+            sys::sp_drive_for(party, call, with, nanoseconds(time))
+        })
+        .resume()
+    }
+
+    /// The threads that are awaited, by rising names, after [`Refusal::Timeout`] of
+    /// [`drive_for`](Safepoints::drive_for) or [`Next::Awaits`]. After another answer the list is an old one.
+    ///
+    /// # Errors
+    /// `safepoint.h` lists none.
+    pub fn late(&self) -> Result<Vec<LateThread>, Refusal> {
+        let mut list = [sys::LateThread::default(); PLACES];
+        // SAFETY: the pointer is that of a party, which this thread alone has, and the list has this room.
+        let count =
+            answer(unsafe { sys::sp_late(self.party.raw(), list.as_mut_ptr(), list.len()) })?;
+        Ok(list[..count as usize].iter().map(LateThread::of).collect())
     }
 
     /// Works up to four handshakes at once, or one census, to their Close, and answers how many were closed, 0 where

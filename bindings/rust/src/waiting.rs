@@ -1,10 +1,16 @@
 //! Making a call again until what it needs is there: `SP_WAIT` of `safepoint_wait.h`.
 use crate::refusal::Refusal;
 use crate::sys;
+use std::time::Duration;
 
 /// What an answer says.
 pub fn answer(said: i64) -> Result<u64, Refusal> {
     u64::try_from(said).map_err(|_| Refusal::of(said))
+}
+
+/// So long at most, for C. What is longer than C can say has no end.
+pub fn nanoseconds(time: Duration) -> u64 {
+    u64::try_from(time.as_nanos()).unwrap_or(u64::MAX)
 }
 
 /// What the call answers once it isn't to be made again.

@@ -3,6 +3,7 @@
 #ifndef SAFEPOINT_HPP
 #define SAFEPOINT_HPP
 
+#include <chrono>
 #include <cstdint>
 #include <functional>
 #include <memory>
@@ -35,6 +36,31 @@ template <class Call> std::uint64_t wait(Call call) {
     std::int64_t answer;
     SP_WAIT(answer, call());
     return must(answer);
+}
+
+/* How long a call waits at most, for C: no time where it is negative. */
+inline std::uint64_t at_most(std::chrono::nanoseconds time) {
+    return time.count() > 0 ? static_cast<std::uint64_t>(time.count()) : 0;
+}
+
+/* A number above 0, or 0 if the time is over. */
+inline std::uint64_t unless_over(std::int64_t answer) {
+    return answer == SP_TIMEOUT ? 0 : must(answer);
+}
+
+/* What this process counts since stats_on(true). */
+inline void stats_on(bool on) { sp_stats_on(on); }
+inline sp_statistics stats() {
+    sp_statistics stats{};
+    sp_stats(&stats);
+    return stats;
+}
+
+/* The same of a call that asks: a coordinator wakes that waits for requests. */
+template <class Call> std::uint64_t ask(Call call) {
+    auto number = wait(call);
+    sp_ring();
+    return number;
 }
 
 using Callback = std::function<void(const sp_served &)>;
@@ -82,15 +108,15 @@ public:
     std::uint64_t submit(const std::vector<std::uint64_t> &names, std::uint32_t asks = SP_DEPTH,
                          std::uint64_t serial = 0) {
         for (auto name : names) must(sp_target(&party_, name));
-        return wait([&] { return sp_submit(&party_, asks, serial); });
+        return ask([&] { return sp_submit(&party_, asks, serial); });
     }
     /* The same of all threads that live when it is submitted. */
     std::uint64_t submit_to_all(std::uint32_t asks = SP_DEPTH, std::uint64_t serial = 0) {
         must(sp_target_all(&party_));
-        return wait([&] { return sp_submit(&party_, asks, serial); });
+        return ask([&] { return sp_submit(&party_, asks, serial); });
     }
     std::uint64_t census() {
-        return wait([&] { return sp_census(&party_); });
+        return ask([&] { return sp_census(&party_); });
     }
     std::uint64_t reply(std::uint64_t operation, std::uint64_t name) {
         return wait([&] { return sp_reply(&party_, operation, name); });
@@ -112,6 +138,16 @@ public:
     }
     /* Waits until the request of the number, and each before it, is closed. */
     void wait_closed(std::uint64_t number) { must(sp_wait_closed(&party_, number)); }
+    /* The same for so long at most: whether they are closed. */
+    bool wait_closed_for(std::uint64_t number, std::chrono::nanoseconds time) {
+        std::int64_t answer = sp_wait_closed_for(&party_, number, at_most(time));
+        return answer != SP_TIMEOUT && must(answer) == 0;
+    }
+    /* Waits until a request is open or waits: the least number of these, or 0 if the time is over.
+       Who asks by C wakes it by sp_ring. */
+    std::uint64_t wait_request(std::chrono::nanoseconds time) {
+        return unless_over(sp_wait_request(&party_, at_most(time)));
+    }
     void forget() {
         wait([&] { return sp_forget(&party_); });
     }
@@ -188,6 +224,18 @@ public:
     /* Works the oldest request to its Close: its number. */
     std::uint64_t drive(Callback callback = {}) {
         return ended(sp_drive(&party_, at_safe_point, &callback));
+    }
+    /* The same for so long at most: 0 if the time is over. Then the request stays open, and the next
+       drive continues. */
+    std::uint64_t drive_for(std::chrono::nanoseconds time, Callback callback = {}) {
+        std::int64_t answer = sp_drive_for(&party_, at_safe_point, &callback, at_most(time));
+        return answer == SP_TIMEOUT ? 0 : ended(answer);
+    }
+    /* The threads that are awaited, where the time of `drive_for` was over or `advance` said `awaits`. */
+    std::vector<sp_late_thread> late() {
+        std::vector<sp_late_thread> list(64);
+        list.resize(must(sp_late(&party_, list.data(), list.size())));
+        return list;
     }
     std::uint64_t drive_four(Callback callback = {}) {
         return ended(sp_drive_four(&party_, at_safe_point, &callback));
