@@ -3,14 +3,14 @@
 
 | program of tests/hosts | what a host does |
 |---|---|
-| `attach.c` | threads start while censuses are open |
-| `join.c` | threads join one system at once |
-| `restart.c` | a party is a thread again and again |
-| `ask_all.c` | requests of all threads, while threads start and exit |
-| `reclaim.c` | codes are reclaimed, while threads start and exit |
-| `replies.c` | a client asks for replies while the coordinator works |
-| `fork_child.c` | the process forks |
-| `entries.c` | the history gets full: the page of sp_forget has the number of entries of each call |
+| `hosts/attach.c` | threads start while censuses are open |
+| `hosts/join.c` | threads join one system at once |
+| `hosts/restart.c` | a party is a thread again and again |
+| `hosts/ask_all.c` | requests of all threads, while threads start and exit |
+| `hosts/reclaim.c` | codes are reclaimed, while threads start and exit |
+| `hosts/replies.c` | a client asks for replies while the coordinator works |
+| `hosts/fork_child.c` | the process forks |
+| `hosts/entries.c` | the history gets full: the page of sp_forget has the number of entries of each call |
 
 All but the last run as they are, with the checks of -DSP_CHECK, with a pthread condition in place of a futex, and under
 ThreadSanitizer and AddressSanitizer.
@@ -36,7 +36,7 @@ PROGRAMS = {
     "fork_child": ((), ((40,),), ((5,),)),
 }
 VARIANTS = ((CHECK,), (CONDITION,), (RACES,), (MEMORY,))
-# The entries that fill a history, and the targets of the requests of `entries.c` of which none lives.
+# The entries that fill a history, and the targets of the requests of `hosts/entries.c` of which none lives.
 FULL, GONE = 1_000_000, 8
 # A line of the header that counts entries: the call, whether each target counts, and a number.
 ENTRIES = re.compile(r"^   (sp_\w+)\b.* {2,}(N \+ )?(\d)$", re.MULTILINE)
