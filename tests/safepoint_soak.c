@@ -194,7 +194,7 @@ static void hold_and_serve(bool is_census) {
         int64_t owed, answer;
         SP_WAIT(owed, sp_hold(&coordinator, place));
         if (owed < 0 || is_census) continue;
-        at_safe_point(NULL, &(struct sp_served){(uint64_t)owed, place, NULL});
+        at_safe_point(NULL, &(struct sp_served){(uint64_t)owed, place, NULL, SP_HANDSHAKE});
         SP_WAIT(answer, sp_serve(&coordinator, place));
         must("sp_serve", answer);
         SP_WAIT(answer, sp_release(&coordinator, place));
@@ -248,7 +248,8 @@ static void drive_by_steps(void) {
 
 /* A held thread is served next: the callback runs, and the step that follows or the coordinator serves it; or it is let go unserved. */
 static void serve_next(void) {
-    struct sp_served next = {(uint64_t)sp_called_operation(&coordinator), (size_t)sp_called_place(&coordinator), NULL};
+    struct sp_served next = {(uint64_t)sp_called_operation(&coordinator), (size_t)sp_called_place(&coordinator), NULL,
+                             SP_HANDSHAKE};
     uint64_t way = drawn(&coordinator_random, 5);
     int64_t answer;
     if (way < 4) at_safe_point(NULL, &next);

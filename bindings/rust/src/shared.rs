@@ -7,7 +7,8 @@ use crate::waiting::answer;
 use std::cell::UnsafeCell;
 use std::fmt;
 use std::mem;
-use std::sync::Arc;
+use std::ptr::{self, NonNull};
+use std::sync::atomic::{fence, AtomicUsize, Ordering};
 
 /// A system that any thread of the host may join at any time, also while the coordinator works. Threads share it, or
 /// each has a clone.
@@ -39,18 +40,20 @@ use std::sync::Arc;
 /// fn is_shared<T: Clone + Send + Sync>() {}
 /// is_shared::<safepoint::System>();
 /// ```
-#[derive(Clone)]
 pub struct System {
-    raw: Arc<Raw>,
+    raw: NonNull<Shared>,
 }
 
-/// It stays at its place.
-struct Raw(UnsafeCell<sys::System>);
+/// It stays at its place. `Arc` isn't it, since an `Arc` that finds no memory ends the process.
+struct Shared {
+    system: UnsafeCell<sys::System>,
+    owners: AtomicUsize,
+}
 
 // SAFETY: after it is made, `sp_system_join` alone is called with it, which any thread may do at any time.
-unsafe impl Send for Raw {}
+unsafe impl Send for System {}
 // SAFETY: as above.
-unsafe impl Sync for Raw {}
+unsafe impl Sync for System {}
 
 impl System {
     /// Makes a system, and answers its coordinator's party too.
@@ -59,13 +62,29 @@ impl System {
         slots: usize,
         methods: usize,
     ) -> Result<(System, Party), Refusal> {
-        let raw = Arc::new(Raw(UnsafeCell::new(sys::System::default())));
-        let at = raw.0.get();
+        let mut room = Vec::new();
+        room.try_reserve_exact(1).map_err(|_| Refusal::NoMemory)?;
+        room.push(Shared {
+            system: UnsafeCell::new(sys::System::default()),
+            owners: AtomicUsize::new(1),
+        });
+        let raw = NonNull::from(Box::leak(room.into_boxed_slice())).cast();
+        let system = System { raw };
+        let at = system.at();
         // SAFETY: the pointer is that of a system, which isn't made yet.
         answer(unsafe { sys::sp_system_make(at, places, slots, methods) })?;
         // SAFETY: nobody else has the system, which is made. From here on the coordinator's party is here alone.
         let coordinator = mem::take(unsafe { &mut *sys::sp_system_coordinator(at) });
-        Ok((System { raw }, Party::of(coordinator)))
+        Ok((system, Party::of(coordinator)))
+    }
+
+    fn shared(&self) -> &Shared {
+        // SAFETY: this owner keeps it.
+        unsafe { self.raw.as_ref() }
+    }
+
+    fn at(&self) -> *mut sys::System {
+        self.shared().system.get()
     }
 
     /// Makes another party to the system, a client, which may become a thread.
@@ -75,7 +94,7 @@ impl System {
     pub fn join(&self) -> Result<Client, Refusal> {
         let other = Party::of(sys::Party::default());
         // SAFETY: the pointers are those of a system, with which any thread may make this call, and of a party.
-        answer(unsafe { sys::sp_system_join(self.raw.0.get(), other.raw()) })?;
+        answer(unsafe { sys::sp_system_join(self.at(), other.raw()) })?;
         Ok(Client::of(other))
     }
 }
@@ -86,9 +105,23 @@ impl fmt::Debug for System {
     }
 }
 
-impl Drop for Raw {
+impl Clone for System {
+    fn clone(&self) -> System {
+        self.shared().owners.fetch_add(1, Ordering::Relaxed);
+        System { raw: self.raw }
+    }
+}
+
+impl Drop for System {
     fn drop(&mut self) {
-        // SAFETY: the pointer is that of a system, and nobody calls with it any more.
-        unsafe { sys::sp_system_free(self.0.get()) }
+        if self.shared().owners.fetch_sub(1, Ordering::Release) > 1 {
+            return;
+        }
+        fence(Ordering::Acquire);
+        // SAFETY: the pointer is that of a system, and this was its last owner.
+        unsafe { sys::sp_system_free(self.at()) };
+        let room = ptr::slice_from_raw_parts_mut(self.raw.as_ptr(), 1);
+        // SAFETY: `new` leaked it as a slice of one.
+        drop(unsafe { Box::from_raw(room) });
     }
 }

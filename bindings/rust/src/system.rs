@@ -149,7 +149,11 @@ impl Safepoints {
     /// [`Refusal::BadSize`], [`Refusal::NoMemory`].
     pub fn new(places: usize, slots: usize, methods: usize) -> Result<Safepoints, Refusal> {
         let (system, party) = System::new(places, slots, methods)?;
-        Ok(Safepoints { party, system, hint: None })
+        Ok(Safepoints {
+            party,
+            system,
+            hint: None,
+        })
     }
 
     /// The system, for threads that join it. They may outlive its coordinator.
