@@ -31,7 +31,7 @@ FORM = {
 }
 REQUEST, LIVE, POLL = 0xa8, 0x10, 0x40  # bytes from one to the next
 OPEN = 4  # the most requests that are open
-RUNS, COORDINATES = 2, 5  # of the roles of a party
+RUNS, COORDINATES = 2, 4  # of the roles of a party
 CENSUS = 1  # of the kinds of a request
 IN_JAVA, IN_VM, AT_POLL, IN_NATIVE, BLOCKED, GIVEN, SERVING = range(7)
 STATES = ("in Java", "in the VM", "at a poll", "in native code", "blocked", "stopped", "serving")
