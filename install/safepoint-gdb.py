@@ -38,7 +38,7 @@ STATES = ("in Java", "in the VM", "at a poll", "in native code", "blocked", "sto
 # Why a stop awaits a thread in this state. In the others the coordinator has its stack.
 AWAITED = {IN_JAVA: "it hasn't polled", IN_VM: "it hasn't left the VM", AT_POLL: "it hasn't called sp_stop",
            SERVING: "its callback hasn't returned"}
-FRAMES = 6  # that are shown of a thread
+FRAMES = 8  # that are shown of a thread
 
 
 class Unreadable(Exception):
