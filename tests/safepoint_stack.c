@@ -13,6 +13,7 @@
 
 enum { ROOM = 1 << 18, PLACES = 64, SLOTS = 1024, METHODS = 256, FRAMES = 256, FILLED = 0xa5 };
 
+static struct sp_system joined;
 static struct sp_party coordinator, client, threads[PLACES], spare;
 static unsigned char room[ROOM] __attribute__((aligned(4096)));
 static size_t most, greatest, without; /* (without a call) */
@@ -209,7 +210,7 @@ static void by_advancing(void) {
     ON(awaited, &coordinator, 0, 1);
     ON(awaited_after, &coordinator, 0, 1);
     ON(awaited_place, &coordinator, 0, 0);
-    ON(depth, &threads[0], 0, 0);
+    ON(depth, &threads[0], 0, 256);
     ON(to_native, &threads[0], 0, 0);
     ON(advance, &coordinator, 0, SP_RUN);
     ON(advance, &coordinator, 0, 4);
@@ -235,7 +236,7 @@ static void of_all(void) {
     ON(census, &client, 0, 7);
     ON(wait_request, &client, 0, 7);
     ON(wait_closed_for, &client, 7, SP_TIMEOUT);
-    ON(late, &coordinator, 0, 0);
+    ON(late, &coordinator, 0, PLACES); /* an old list */
     ON(drive_for, &coordinator, 0, 7);
     ON(wait_closed_for, &client, 7, 0);
     for (int i = 0; i < 4; i++) {

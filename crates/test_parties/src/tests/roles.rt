@@ -1,4 +1,4 @@
-//! The acts that a party may make by its kind: a client, a thread, a thread that is gone, or the coordinator.
+//! The acts that a party may make by its kind: a client, a thread, a thread that has exited, or the coordinator.
 use crate::tests::rows::play;
 use std::test::*;
 
@@ -40,16 +40,17 @@ const ROLES: &str = "
     c live_after 0 = 1
     c open_kind, c forget = 0
 
-    # A thread that has exited is none, doesn't start again, and asks.
+    # A thread that has exited is a client, which asks, and starts again as another thread.
     a exit = 0
-    a exit, a start, a name, a place, a state, a call 0, a ret, a back_edge, a publish, a to_vm, a from_vm = NotThis
+    a exit, a name, a place, a state, a call 0, a ret, a back_edge, a publish, a to_vm, a from_vm = NotThis
     a to_native, a from_native, a block, a unblock, a stop_next, a stop_serve, a open, a close, a hold 0 = NotThis
     a live_after 0, a open_kind = 0
     a census = 3
+    a start = 2; a place, a exit = 0
 
     # The system stays until its last party goes.
     c free, k free, a free, b free, d free = 0
-    e start = 2; e place, e exit = 0
+    e start = 3; e place, e exit = 0
 ";
 
 #[test]
